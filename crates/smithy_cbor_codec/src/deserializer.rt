@@ -50,10 +50,11 @@ impl<'a> CborDeserializer<'a> {
 }
 
 impl ShapeDeserializer for CborDeserializer<'_> {
-    ghost use Rattle.std.specs.Prelude.{◌≡◌, ℕ, OnOk, IfOk, IsOk, IsErr, IsErrOf, true, false, refl};
-    ghost use Rattle.smithy_schema.specs.Errors.{RefusesNoKind, IsRefused, IsInvalid, IsNoAnswer};
+    ghost use Rattle.std.specs.Prelude.{◌≡◌, ℕ, IfOk, IsOk, IsErr, IsErrOf, true, false, refl};
+    ghost use Rattle.smithy_schema.specs.Errors.{IsInvalid};
     ghost use Rattle.smithy_schema.specs.Containers.{GoesOnInStructure};
-    ghost use Rattle.smithy_schema.specs.Reading.{depth, in_structure, null_is_due, Conducts, Passes, ReadsScalar, ReadsDocument, AnswersUncarried, NullsNot, SkipsNot, ReachesDepth};
+    ghost use Rattle.smithy_schema.specs.Passing.{ReadsNull, SkipsValue};
+    ghost use Rattle.smithy_schema.specs.Reading.{depth, in_structure, null_is_due, ReadsScalar, ReadsDocument, AnswersUncarried, SkipsNot};
     ghost use Rattle.smithy_declarations.specs.Table.{HasMembers};
     ghost use Rattle.smithy_shapes.specs.Site.{site_of, kind_at};
     ghost use Rattle.smithy_schema.specs.declared.error.SerdeError.TheVariants.{NoMemory, NotCarried, TooDeep};
@@ -212,15 +213,7 @@ impl ShapeDeserializer for CborDeserializer<'_> {
 
     fn read_null(&mut self) -> Result<(), SerdeError>
         ensures same { reading_settings_of self.new ≡ reading_settings_of self.old }
-        ensures conduct { Conducts (cursor_of self.old) (cursor_of self.new) result }
-        ensures narrow { RefusesNoKind result }
-        ensures memory { IsErrOf result NoMemory → ⊥ }
-        ensures shallow { IsErrOf result TooDeep → ⊥ }
-        ensures ok { null_is_due (cbor_relations (reading_settings_of self.old)) (cursor_of self.old) ≡ true → OnOk result ((cbor_relations (reading_settings_of self.old)).nulls (cursor_of self.old).input (depth (cursor_of self.old)) (cursor_of self.old).at (cursor_of self.new).at) }
-        ensures passes { null_is_due (cbor_relations (reading_settings_of self.old)) (cursor_of self.old) ≡ true → OnOk result (Passes (cursor_of self.old) (cursor_of self.new)) }
-        ensures refused { null_is_due (cbor_relations (reading_settings_of self.old)) (cursor_of self.old) ≡ true → IsRefused result → NullsNot (cbor_relations (reading_settings_of self.old)) (cursor_of self.old) }
-        ensures none_without_limits { (reading_settings_of self.old).enforce_strictness ≡ true → null_is_due (cbor_relations (reading_settings_of self.old)) (cursor_of self.old) ≡ true → IsInvalid result → NullsNot (cbor_relations (without_limits (reading_settings_of self.old))) (cursor_of self.old) }
-        ensures nothing { null_is_due (cbor_relations (reading_settings_of self.old)) (cursor_of self.old) ≡ false → OnOk result (cursor_of self.new ≡ cursor_of self.old) }
+        ensures reads { ReadsNull (cbor_relations (reading_settings_of self.old)) (cbor_relations (without_limits (reading_settings_of self.old))) ((reading_settings_of self.old).enforce_strictness ≡ true) (cursor_of self.old) (cursor_of self.new) result }
 
         // Where no null is due, the call is refused.
         ensures not_due { null_is_due (cbor_relations (reading_settings_of self.old)) (cursor_of self.old) ≡ false → IsErr result }
@@ -242,15 +235,7 @@ impl ShapeDeserializer for CborDeserializer<'_> {
 
     fn skip_value(&mut self) -> Result<(), SerdeError>
         ensures same { reading_settings_of self.new ≡ reading_settings_of self.old }
-        ensures conduct { Conducts (cursor_of self.old) (cursor_of self.new) result }
-        ensures narrow { RefusesNoKind result }
-        ensures undue { (cursor_of self.old).due ≡ false → IsNoAnswer result }
-        ensures ok { OnOk result ((cbor_relations (reading_settings_of self.old)).skips (cursor_of self.old).input (depth (cursor_of self.old)) (cursor_of self.old).at (cursor_of self.new).at) }
-        ensures passes { OnOk result (Passes (cursor_of self.old) (cursor_of self.new)) }
-        ensures refused { IsRefused result → (cursor_of self.old).due ≡ true → SkipsNot (cbor_relations (reading_settings_of self.old)) (cursor_of self.old) }
-        ensures none_without_limits { (reading_settings_of self.old).enforce_strictness ≡ true → IsInvalid result → (cursor_of self.old).due ≡ true → SkipsNot (cbor_relations (without_limits (reading_settings_of self.old))) (cursor_of self.old) }
-        ensures deep { IsErrOf result TooDeep → ReachesDepth (cbor_relations (reading_settings_of self.old)) (reading_settings_of self.old).max_depth (cursor_of self.old) }
-        ensures limited { IsErrOf result TooDeep → (cbor_relations (reading_settings_of self.old)).limits_skips ≡ true }
+        ensures skips { SkipsValue (cbor_relations (reading_settings_of self.old)) (cbor_relations (without_limits (reading_settings_of self.old))) ((reading_settings_of self.old).enforce_strictness ≡ true) (reading_settings_of self.old).max_depth (cursor_of self.old) (cursor_of self.new) result }
 
         // What is skipped may nest to any depth.
         ensures shallow { IsErrOf result TooDeep → ⊥ }

@@ -6,15 +6,15 @@ use smithy_schema::{Schema, SerdeError, Step};
 use smithy_wire::ContainerKind;
 
 impl CborDeserializer<'_> {
-    ghost use Rattle.std.specs.Prelude.{◌≡◌, ◌≤◌, ◌↔◌, length, IsTrue, IfOk, IsErrOf, false};
-    ghost use Rattle.smithy_schema.specs.Errors.{RefusesNoKind, IsRefused};
-    ghost use Rattle.smithy_schema.specs.Reading.{passed_to, in_structure, Conducts, MatchStep, CannotGoOn};
+    ghost use Rattle.std.specs.Prelude.{◌≡◌, ◌≤◌, ◌↔◌, length, IsTrue, IsErrOf, false};
+    ghost use Rattle.smithy_schema.specs.Reading.{in_structure};
     ghost use Rattle.smithy_declarations.specs.Table.{IsStructure, HasMembers};
     ghost use Rattle.smithy_shapes.specs.Site.{site_of, kind_at};
     ghost use Rattle.smithy_schema.specs.declared.error.SerdeError.TheVariants.{TooDeep};
     ghost use Rattle.smithy_cbor_codec.specs.Cursor.{cursor_of, reading_settings_of};
-    ghost use Rattle.smithy_cbor_values.specs.Settings.{Limits};
+    ghost use Rattle.smithy_cbor_values.specs.Settings.{without_limits};
     ghost use Rattle.smithy_cbor_values.specs.Standing.{cbor_relations};
+    ghost use Rattle.smithy_wire.specs.Stepping.{StepsFrom};
     ghost use Rattle.smithy_cbor_codec.specs.Private.MemberSteps.{EndsEmpty};
 
     // Whether the innermost container was opened where nothing is left, and ends at the offset as a structure.
@@ -46,10 +46,7 @@ impl CborDeserializer<'_> {
         requires inside { (cursor_of self.old).inner.within ≡ in_structure }
         requires place { HasMembers (kind_at (site_of schema.now)) }
         ensures same { reading_settings_of self.new ≡ reading_settings_of self.old }
-        ensures conduct { Conducts (cursor_of self.old) (cursor_of self.new) result }
-        ensures narrow { RefusesNoKind result }
-        ensures ok { IfOk result (λ step. MatchStep step (cbor_relations (reading_settings_of self.old)) (passed_to (cursor_of self.old) at) (cursor_of self.new) (site_of schema.now)) }
-        ensures refused { IsRefused result → (limits : Limits) → CannotGoOn (cbor_relations (record (reading_settings_of self.old) { limits = limits })) (passed_to (cursor_of self.old) at) schema.now.shapes.now schema.now.place }
+        ensures steps { StepsFrom (cbor_relations (reading_settings_of self.old)) (cbor_relations (without_limits (reading_settings_of self.old))) (reading_settings_of self.old).max_depth (cursor_of self.old) at (cursor_of self.new) (site_of schema.now) result }
         ensures shallow { IsErrOf result TooDeep → ⊥ }
     {
         if self.ends_empty(at, schema) {

@@ -8,7 +8,7 @@ mod WritingFacts
 mod EntryFacts
 pub mod ReaderLemmas
 pub mod SkippedValues
-pub mod MapEnds
+pub mod ContainerEnds
 pub mod DeserializerLemmas
 pub mod KeyLemmas
 pub mod MemberStepLemmas

@@ -32,10 +32,11 @@ pub struct JsonDeserializer<'c, 'a> {
 }
 
 impl ShapeDeserializer for JsonDeserializer<'_, '_> {
-    ghost use Rattle.std.specs.Prelude.{◌≡◌, ◌≤◌, ℕ, Some, true, false, refl, IfOk, IsOk, OnOk, IsErr, IsErrOf};
-    ghost use Rattle.smithy_schema.specs.Errors.{RefusesNoKind, IsRefused, IsInvalid, IsNoAnswer};
+    ghost use Rattle.std.specs.Prelude.{◌≡◌, ◌≤◌, ℕ, Some, true, false, refl, IfOk, IsOk, IsErr, IsErrOf};
+    ghost use Rattle.smithy_schema.specs.Errors.{IsRefused, IsInvalid};
     ghost use Rattle.smithy_schema.specs.Containers.{GoesOnInStructure};
-    ghost use Rattle.smithy_schema.specs.Reading.{depth, in_structure, ReadsDocument, Conducts, Passes, SkipsNot, NullsNot, ReadsScalar, AnswersWide, ReachesDepth, null_is_due};
+    ghost use Rattle.smithy_schema.specs.Passing.{ReadsNull, SkipsValue};
+    ghost use Rattle.smithy_schema.specs.Reading.{depth, in_structure, ReadsDocument, ReadsScalar, AnswersWide, NullsNot, SkipsNot, null_is_due};
     ghost use Rattle.smithy_declarations.specs.Table.{IsStructure, HasMembers};
     ghost use Rattle.smithy_shapes.specs.Site.{site_of, kind_at};
     ghost use Rattle.smithy_schema.specs.declared.error.SerdeError.TheVariants.{NoMemory, NotCarried, TooDeep};
@@ -190,15 +191,10 @@ impl ShapeDeserializer for JsonDeserializer<'_, '_> {
     // Where no null is due, and the reader hasn't failed, the call does nothing.
     fn read_null(&mut self) -> Result<(), SerdeError>
         ensures same { reader_settings_of self.new ≡ reader_settings_of self.old }
-        ensures conduct { Conducts (cursor_of self.old) (cursor_of self.new) result }
-        ensures narrow { RefusesNoKind result }
-        ensures memory { IsErrOf result NoMemory → ⊥ }
-        ensures shallow { IsErrOf result TooDeep → ⊥ }
-        ensures ok { null_is_due (json_relations (reading_settings_of self.old)) (cursor_of self.old) ≡ true → OnOk result ((json_relations (reading_settings_of self.old)).nulls (cursor_of self.old).input (depth (cursor_of self.old)) (cursor_of self.old).at (cursor_of self.new).at) }
-        ensures passes { null_is_due (json_relations (reading_settings_of self.old)) (cursor_of self.old) ≡ true → OnOk result (Passes (cursor_of self.old) (cursor_of self.new)) }
-        ensures refused { null_is_due (json_relations (reading_settings_of self.old)) (cursor_of self.old) ≡ true → IsRefused result → NullsNot (json_relations (reading_settings_of self.old)) (cursor_of self.old) }
+        ensures reads { ReadsNull (json_relations (reading_settings_of self.old)) (json_relations (without_limits (reading_settings_of self.old))) ((reading_settings_of self.old).enforce_strictness ≡ true) (cursor_of self.old) (cursor_of self.new) result }
+
+        // A refusal speaks of the lifted limits where reading isn't strict, too.
         ensures none_without_limits { null_is_due (json_relations (reading_settings_of self.old)) (cursor_of self.old) ≡ true → IsInvalid result → NullsNot (json_relations (without_limits (reading_settings_of self.old))) (cursor_of self.old) }
-        ensures nothing { null_is_due (json_relations (reading_settings_of self.old)) (cursor_of self.old) ≡ false → OnOk result (cursor_of self.new ≡ cursor_of self.old) }
         ensures unasked { null_is_due (json_relations (reading_settings_of self.old)) (cursor_of self.old) ≡ false → (cursor_of self.old).failed ≡ false → IsOk result }
     {
         if self.walk.failed {
@@ -219,16 +215,11 @@ impl ShapeDeserializer for JsonDeserializer<'_, '_> {
     // Skipping takes no memory, so it is never refused for want of memory.
     fn skip_value(&mut self) -> Result<(), SerdeError>
         ensures same { reader_settings_of self.new ≡ reader_settings_of self.old }
-        ensures conduct { Conducts (cursor_of self.old) (cursor_of self.new) result }
-        ensures narrow { RefusesNoKind result }
-        ensures memory { IsErrOf result NoMemory → ⊥ }
-        ensures undue { (cursor_of self.old).due ≡ false → IsNoAnswer result }
-        ensures ok { OnOk result ((json_relations (reading_settings_of self.old)).skips (cursor_of self.old).input (depth (cursor_of self.old)) (cursor_of self.old).at (cursor_of self.new).at) }
-        ensures passes { OnOk result (Passes (cursor_of self.old) (cursor_of self.new)) }
-        ensures refused { IsRefused result → (cursor_of self.old).due ≡ true → SkipsNot (json_relations (reading_settings_of self.old)) (cursor_of self.old) }
+        ensures skips { SkipsValue (json_relations (reading_settings_of self.old)) (json_relations (without_limits (reading_settings_of self.old))) ((reading_settings_of self.old).enforce_strictness ≡ true) (reading_settings_of self.old).max_depth (cursor_of self.old) (cursor_of self.new) result }
+
+        // A refusal speaks of the lifted limits where reading isn't strict, too.
         ensures none_without_limits { IsInvalid result → (cursor_of self.old).due ≡ true → SkipsNot (json_relations (without_limits (reading_settings_of self.old))) (cursor_of self.old) }
-        ensures deep { IsErrOf result TooDeep → ReachesDepth (json_relations (reading_settings_of self.old)) (reading_settings_of self.old).max_depth (cursor_of self.old) }
-        ensures limited { IsErrOf result TooDeep → (json_relations (reading_settings_of self.old)).limits_skips ≡ true }
+        ensures memory { IsErrOf result NoMemory → ⊥ }
 
         // `TooDeep` comes only of a container that begins at the greatest depth, behind what is sound.
         ensures too_deep { IsErrOf result TooDeep → OpensTooDeep (json_grammar (reading_settings_of self.old)) (reading_settings_of self.old).max_depth (depth (cursor_of self.old)) (cursor_of self.old).input (cursor_of self.old).at }

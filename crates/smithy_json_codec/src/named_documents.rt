@@ -1,8 +1,6 @@
 //! Writing documents with the identifier of their shape.
-ghost use Rattle.std.specs.Prelude.{◌≡◌, ◌↔◌, ◌++◌, Ok, Err, true, OnOk, IfErr, IsErr, IsErrOf};
-ghost use Rattle.smithy_schema.specs.declared.error.SerdeError.TheVariants.{Failed};
-ghost use Rattle.smithy_schema.specs.Errors.{IsFault};
-ghost use Rattle.smithy_schema.specs.Writing.{after_value};
+ghost use Rattle.std.specs.Prelude.{◌≡◌, ◌++◌, Ok, Err, true, OnOk};
+ghost use Rattle.smithy_schema.specs.Writing.{Makes, after_value};
 ghost use Rattle.smithy_shapes.specs.Site.{site_of};
 ghost use Rattle.smithy_types.specs.Discriminated.{discriminated_view};
 ghost use Rattle.smithy_types.specs.Document.{whole_document};
@@ -68,10 +66,7 @@ impl JsonSerializer {
         identifier: &str,
         properties: &BTreeMap<String, Document>,
     ) -> Result<(), SerdeError>
-        ensures failed { IsErrOf result Failed ↔ (has_failed self.old ≡ true) }
-        ensures broken { IsErr result ↔ (has_failed self.new ≡ true) }
-        ensures ok { OnOk result (where_taken (wrote (state_of self.old) (site_of schema.now).view (named_text identifier.now (properties_view properties.now.entries))) (after_value (state_of self.old).frames) ≡ Ok (state_of self.new)) }
-        ensures refused { IfErr result (λ e. IsFault e → after_value (state_of self.old).frames ≡ Err e) }
+        ensures { Makes (where_taken (wrote (state_of self.old) (site_of schema.now).view (named_text identifier.now (properties_view properties.now.entries))) (after_value (state_of self.old).frames)) (has_failed self.old) (state_of self.new) (has_failed self.new) result }
     {
         self.begin_value(schema)?;
         push_named(&mut self.out, identifier, properties)?;
@@ -87,10 +82,7 @@ impl JsonSerializer {
         schema: &Schema<'_>,
         value: &DiscriminatedDocument,
     ) -> Result<(), SerdeError>
-        ensures failed { IsErrOf result Failed ↔ (has_failed self.old ≡ true) }
-        ensures broken { IsErr result ↔ (has_failed self.new ≡ true) }
-        ensures ok { OnOk result (wrote_any (state_of self.old) (site_of schema.now).view (discriminated_text (discriminated_view value.now).discriminator (discriminated_view value.now).document) ≡ Ok (state_of self.new)) }
-        ensures refused { IfErr result (λ e. IsFault e → wrote_any (state_of self.old) (site_of schema.now).view (discriminated_text (discriminated_view value.now).discriminator (discriminated_view value.now).document) ≡ Err e) }
+        ensures { Makes (wrote_any (state_of self.old) (site_of schema.now).view (discriminated_text (discriminated_view value.now).discriminator (discriminated_view value.now).document)) (has_failed self.old) (state_of self.new) (has_failed self.new) result }
     {
         let Some(identifier) = value.discriminator() else {
             return self.write_document(schema, value.document());

@@ -3,7 +3,7 @@ ghost use Rattle.std.specs.Prelude.{◌≡◌, ◌↔◌, [], ◌∷◌, ◌++�
 ghost use Rattle.smithy_schema.specs.declared.error.SerdeError.TheVariants.{Failed, NoMemory};
 ghost use Rattle.smithy_schema.specs.Errors.{IsFault};
 ghost use Rattle.smithy_shapes.specs.Site.{site_of};
-ghost use Rattle.smithy_schema.specs.Writing.{after_value, after_text, after_begin};
+ghost use Rattle.smithy_schema.specs.Writing.{Makes, after_value, after_text, after_begin};
 ghost use Rattle.smithy_texts.specs.Base64Text.{blob_text};
 ghost use Rattle.smithy_types.specs.Document.{whole_document};
 ghost use Rattle.smithy_types.specs.DocumentView.{document_view};
@@ -82,10 +82,7 @@ impl JsonSerializer {
         container: Container,
         bracket: u8,
     ) -> Result<(), SerdeError>
-        ensures failed { IsErrOf result Failed ↔ (has_failed self.old ≡ true) }
-        ensures broken { IsErr result ↔ (has_failed self.new ≡ true) }
-        ensures ok { OnOk result (where_taken (opened (state_of self.old) (site_of schema.now).view bracket) (after_begin (open_of container) (state_of self.old).frames) ≡ Ok (state_of self.new)) }
-        ensures refused { IfErr result (λ e. IsFault e → after_value (state_of self.old).frames ≡ Err e) }
+        ensures { Makes (where_taken (opened (state_of self.old) (site_of schema.now).view bracket) (after_begin (open_of container) (state_of self.old).frames)) (has_failed self.old) (state_of self.new) (has_failed self.new) result }
     {
         self.begin_value(schema)?;
         self.out.push(bracket)?;
@@ -97,10 +94,7 @@ impl JsonSerializer {
 
     // Writes a value that is no container.
     fn write_text(&mut self, schema: &Schema<'_>, text: &[u8]) -> Result<(), SerdeError>
-        ensures failed { IsErrOf result Failed ↔ (has_failed self.old ≡ true) }
-        ensures broken { IsErr result ↔ (has_failed self.new ≡ true) }
-        ensures ok { OnOk result (where_taken (wrote (state_of self.old) (site_of schema.now).view text.now) (after_value (state_of self.old).frames) ≡ Ok (state_of self.new)) }
-        ensures refused { IfErr result (λ e. IsFault e → after_value (state_of self.old).frames ≡ Err e) }
+        ensures { Makes (where_taken (wrote (state_of self.old) (site_of schema.now).view text.now) (after_value (state_of self.old).frames)) (has_failed self.old) (state_of self.new) (has_failed self.new) result }
     {
         self.begin_value(schema)?;
         self.out.extend_from_slice(text)?;
@@ -111,10 +105,7 @@ impl JsonSerializer {
 
     // Writes a big number whose text is no number of JSON by another text of the same number.
     fn write_normalized(&mut self, schema: &Schema<'_>, text: &str) -> Result<(), SerdeError>
-        ensures failed { IsErrOf result Failed ↔ (has_failed self.old ≡ true) }
-        ensures broken { IsErr result ↔ (has_failed self.new ≡ true) }
-        ensures ok { OnOk result (where_taken (wrote (state_of self.old) (site_of schema.now).view (normalized text.now)) (after_value (state_of self.old).frames) ≡ Ok (state_of self.new)) }
-        ensures refused { IfErr result (λ e. IsFault e → after_value (state_of self.old).frames ≡ Err e) }
+        ensures { Makes (where_taken (wrote (state_of self.old) (site_of schema.now).view (normalized text.now)) (after_value (state_of self.old).frames)) (has_failed self.old) (state_of self.new) (has_failed self.new) result }
     {
         self.begin_value(schema)?;
         push_normalized(&mut self.out, text.as_bytes())?;
@@ -126,10 +117,7 @@ impl JsonSerializer {
     // Writes a big number by its text, as the settings say.
     #[tactic(auto, unfolding(crate::specs::WrittenNumber::written_number))]
     fn write_number(&mut self, schema: &Schema<'_>, text: &str) -> Result<(), SerdeError>
-        ensures failed { IsErrOf result Failed ↔ (has_failed self.old ≡ true) }
-        ensures broken { IsErr result ↔ (has_failed self.new ≡ true) }
-        ensures ok { OnOk result (wrote_any (state_of self.old) (site_of schema.now).view (written_number (state_of self.old).settings text.now) ≡ Ok (state_of self.new)) }
-        ensures refused { IfErr result (λ e. IsFault e → wrote_any (state_of self.old) (site_of schema.now).view (written_number (state_of self.old).settings text.now) ≡ Err e) }
+        ensures { Makes (wrote_any (state_of self.old) (site_of schema.now).view (written_number (state_of self.old).settings text.now)) (has_failed self.old) (state_of self.new) (has_failed self.new) result }
     {
         if self.settings.use_string_for_arbitrary_precision {
             return self.write_quoted(schema, text);
@@ -146,10 +134,7 @@ impl JsonSerializer {
 
     // Writes a text that is a value.
     fn write_quoted(&mut self, schema: &Schema<'_>, text: &str) -> Result<(), SerdeError>
-        ensures failed { IsErrOf result Failed ↔ (has_failed self.old ≡ true) }
-        ensures broken { IsErr result ↔ (has_failed self.new ≡ true) }
-        ensures ok { OnOk result (where_taken (wrote (state_of self.old) (site_of schema.now).view (quoted text.now)) (after_value (state_of self.old).frames) ≡ Ok (state_of self.new)) }
-        ensures refused { IfErr result (λ e. IsFault e → after_value (state_of self.old).frames ≡ Err e) }
+        ensures { Makes (where_taken (wrote (state_of self.old) (site_of schema.now).view (quoted text.now)) (after_value (state_of self.old).frames)) (has_failed self.old) (state_of self.new) (has_failed self.new) result }
     {
         self.begin_value(schema)?;
         push_quoted(&mut self.out, text)?;
@@ -165,10 +150,7 @@ impl JsonSerializer {
         form: TimestampFormat,
         text: &str,
     ) -> Result<(), SerdeError>
-        ensures failed { IsErrOf result Failed ↔ (has_failed self.old ≡ true) }
-        ensures broken { IsErr result ↔ (has_failed self.new ≡ true) }
-        ensures ok { OnOk result (where_taken (wrote (state_of self.old) (site_of schema.now).view (in_form form text.now)) (after_value (state_of self.old).frames) ≡ Ok (state_of self.new)) }
-        ensures refused { IfErr result (λ e. IsFault e → after_value (state_of self.old).frames ≡ Err e) }
+        ensures { Makes (where_taken (wrote (state_of self.old) (site_of schema.now).view (in_form form text.now)) (after_value (state_of self.old).frames)) (has_failed self.old) (state_of self.new) (has_failed self.new) result }
     {
         match form {
             TimestampFormat::EpochSeconds => self.write_text(schema, text.as_bytes()),

@@ -5,8 +5,8 @@ use Rattle.smithy_schema.specs.declared.error.SerdeError.TheVariants.{Failed}
 use Rattle.smithy_schema.specs.Errors.{IsFault}
 use Rattle.smithy_shapes.specs.Site.{Site}
 use Rattle.smithy_declarations.specs.Value.{list, Values}
-use Rattle.smithy_schema.specs.Writing.{Event, Writer, Open, open_list, begin_list, IsNested, after_value, after_begin, open_after, and_run, run, write, events}
-use Rattle.smithy_schema.specs.Written.{outcome, IsInside, Refuses, Wraps, whole, not_ended}
+use Rattle.smithy_schema.specs.Writing.{Event, Writer, WritesEvent, Open, open_list, begin_list, IsNested, after_value, after_begin, open_after, and_run, run, write, events}
+use Rattle.smithy_schema.specs.Written.{outcome, IsInside, Refuses, Wraps, WritesContainer, whole, not_begun, not_written, not_ended}
 use Rattle.smithy_schema.proofs.WritingLemmas.{call_made, call_refused}
 use Rattle.smithy_schema.proofs.OpenLemmas.{value_leaves}
 use Rattle.smithy_schema.proofs.ConsumingLemmas.{is_error, same_error}
@@ -54,6 +54,36 @@ left_open after open_in nested begins ends o opening closing s t u v (Ok done) b
     let ends_there : open_after ends (o ∷ inside.0) ≡ Ok (open_in v) = subst (λ os. open_after ends os ≡ Ok (open_in v)) (same ∙ inside.2) (nested.goes ends u v ended) in
     inside.1 ∙ sym (closing inside.0) ∙ ends_there
 left_open after open_in nested begins ends o opening closing s t u v (Err e) begun same ended = tt
+
+-- ---- a container whose parts one call writes
+
+module _ {S : Type 0} (after : Writer S) (open_in : S → List Open) (begins ends : Event) (adds : S → Result S SerdeError → Type 0) (old : S) (had : Bool) where
+  -- it isn't begun
+  pub container_refused : (new : S) (has : Bool) (e : SerdeError) → WritesEvent after begins old had new has (Err e) → WritesContainer after open_in begins ends adds old had new has (Err e)
+  container_refused new has e said = record {
+    wraps = not_begun (refused_by after begins old had e said.failed said.refused);
+    nests = tt;
+    broken = said.broken;
+  }
+
+  -- its parts aren't written
+  pub container_broken : (t new : S) (has : Bool) (e : SerdeError) → had ≡ false → after begins old ≡ Ok t → adds t (Err e) → has ≡ true
+      → WritesContainer after open_in begins ends adds old had new has (Err e)
+  container_broken t new has e live begun added failed = record {
+    wraps = not_written live begun added;
+    nests = tt;
+    broken = ((λ h. failed), λ h. refl);
+  }
+
+  -- the last call ends it, or is refused
+  pub container_ends : IsNested after open_in → (o : Open) → ((os : List Open) → open_after begins os ≡ after_begin o os) → ((os : List Open) → open_after ends (o ∷ os) ≡ Ok os)
+      → (t u new : S) (was has : Bool) (r : Result (Unit {0}) SerdeError) → had ≡ false → after begins old ≡ Ok t → adds t (Ok u) → open_in u ≡ open_in t → was ≡ false
+      → WritesEvent after ends u was new has r → WritesContainer after open_in begins ends adds old had new has r
+  container_ends nested o opening closing t u new was has r live begun added same sound said = record {
+    wraps = finished after begins ends adds had was old t u new r live begun added sound said.failed said.ok said.refused;
+    nests = left_open after open_in nested begins ends o opening closing old t u new r begun same said.ok;
+    broken = said.broken;
+  }
 
 run_on : {S : Type 0} (after : Writer S) (open_in : S → List Open) → IsNested after open_in → (e : Event) (es : List Event) (s t : S) (r : Result S SerdeError) → after e s ≡ r
     → ((u : S) → run after es u ≡ Ok t → run open_after es (open_in u) ≡ Ok (open_in t))

@@ -1,5 +1,5 @@
 -- What a call with a consumer does: it enters a container, and the consumer is called along the container's entries.
-use Rattle.std.specs.Prelude.{◌≡◌, ◌≢◌, ◌⊎◌, ◌↔◌, ◌≤◌, ℕ, List, Option, Some, None, true, false, Result, Ok, Err}
+use Rattle.std.specs.Prelude.{◌≡◌, ◌≢◌, ◌⊎◌, ◌↔◌, ◌≤◌, ℕ, List, Option, Some, None, true, false, Result, Ok, Err, OnOk, OnErr}
 use Rattle.smithy_schema.specs.declared.error.SerdeError.{SerdeError}
 use Rattle.smithy_schema.specs.declared.error.SerdeError.TheVariants.{TypeMismatch, TooDeep, Failed, NoMemory}
 use Rattle.smithy_schema.specs.declared.step.Step.{Step}
@@ -92,6 +92,12 @@ pub data Consumes {K C : Type 0} (r : Reader) (site : Site) (within : ContainerK
   unopened : {s : C} {c : Cursor} {e : SerdeError} → RefusesOpening r site c e → Consumes r site within route call s c (Err e) s (failed_at c)
   entered : {s t : C} {c d f : Cursor} {result : Result (Unit {0}) SerdeError} → c.failed ≡ false → c.due ≡ true → Enters r.wire r.max_depth c d site.table site.place within
       → Along route call s d result t f → Consumes r site within route call s c result t f
+
+-- What such a call says of its answer: where it is Ok, the value that was due is taken, and else the reader has failed.
+pub record ReadsEntries {K C : Type 0} (r : Reader) (site : Site) (within : ContainerKind) (route : Route K) (call : Call K C) (s : C) (old : Cursor) (result : Result (Unit {0}) SerdeError) (t : C) (new : Cursor) : Type 0 where
+  pub consumes : Consumes r site within route call s old result t new
+  pub takes : OnOk result (IsTaken old new)
+  pub fails : OnErr result (new.failed ≡ true)
 
 -- ---- the entries of each kind of container
 

@@ -1,10 +1,10 @@
--- What a call of a reader answers that opens a container, or goes on in a structure or in a map.
-use Rattle.std.specs.Prelude.{◌≡◌, ℕ, List, Option, Some, MatchOption, Result, IfOk, IfErr, OnOk, IsErrOf, true, false}
+-- What a call of a reader answers that opens a container, or goes on in one.
+use Rattle.std.specs.Prelude.{◌≡◌, ℕ, List, Option, Some, None, MatchOption, Bool, MatchBool, Result, IfOk, IfErr, OnOk, IsErrOf, true, false}
 use Rattle.smithy_declarations.specs.declared.place.Place.{Place}
-use Rattle.smithy_declarations.specs.Table.{Table, kind_of, IsMap}
+use Rattle.smithy_declarations.specs.Table.{Table, kind_of, IsList, IsMap}
 use Rattle.smithy_shapes.specs.Site.{Site}
 use Rattle.smithy_schema.specs.declared.error.SerdeError.{SerdeError}
-use Rattle.smithy_schema.specs.declared.error.SerdeError.TheVariants.{TooDeep}
+use Rattle.smithy_schema.specs.declared.error.SerdeError.TheVariants.{TooDeep, NoMemory}
 use Rattle.smithy_schema.specs.declared.step.Step.{Step}
 use Rattle.smithy_schema.specs.Errors.{RefusesNoScalar, RefusesNoKind, IsRefused, IsInvalid, IsNoAnswer, TellsType}
 use Rattle.smithy_schema.specs.Reading.{Cursor, depth, Relations, ContainerKind, Conducts, Enters, OpensNot, MatchStep, Steps, Leaves, CannotGoOn, ReachesDepth, passed_to}
@@ -36,6 +36,19 @@ pub record GoesOnInStructure (w u : Relations) (tells_without_limits : Type 0) (
   pub unread_would : tells_without_limits → IsInvalid result → old.due ≡ true → (e : ℕ) → u.skips old.input (depth old) old.at e → CannotGoOn u (passed_to old e) site.table site.place
   pub deep : IsErrOf result TooDeep → ReachesDepth w max old
   pub limited : IsErrOf result TooDeep → w.limits_skips ≡ true
+
+-- What a call says of its answer that goes on in a list, to an element or behind its end: by the relations w, and by u, those with
+-- the limits lifted. An element that was left unread is refused, and no memory is taken.
+pub record GoesOnInList (w u : Relations) (tells_without_limits : Type 0) (old new : Cursor) (result : Result Bool SerdeError) : Type 0 where
+  pub conduct : Conducts old new result
+  pub narrow : RefusesNoKind result
+  pub memory : IsErrOf result NoMemory → ⊥
+  pub shallow : IsErrOf result TooDeep → ⊥
+  pub unread : old.due ≡ true → IsNoAnswer result
+  pub ok : old.due ≡ false → (t : Table) (p : Place) → IsList (kind_of t p)
+      → IfOk result (λ b. MatchBool b (Steps w old new t p None) (Leaves w old new t p))
+  pub refused : IsRefused result → old.due ≡ false → (t : Table) (p : Place) → IsList (kind_of t p) → CannotGoOn w old t p
+  pub none_without_limits : tells_without_limits → IsInvalid result → old.due ≡ false → (t : Table) (p : Place) → IsList (kind_of t p) → CannotGoOn u old t p
 
 -- What a call says of its answer that goes on in a map, whose next key has these bytes: by the relations w, and by u, those with the
 -- limits lifted.

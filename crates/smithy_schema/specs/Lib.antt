@@ -1,6 +1,7 @@
 pub mod Errors
 pub mod Reading
 pub mod Containers
+pub mod Passing
 pub mod Sizes
 pub mod Consuming
 pub mod Elements

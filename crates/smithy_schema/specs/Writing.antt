@@ -148,11 +148,15 @@ pub record IsNested {S : Type 0} (after : Writer S) (open_in : S → List Open) 
   pub goes : (e : Event) (s t : S) → after e s ≡ Ok t → open_after e (open_in s) ≡ Ok (open_in t)
   pub stops : (e : Event) (s : S) → open_after e (open_in s) ≡ Err Unwritable → after e s ≡ Err Unwritable
 
--- What a call of a serializer says of its answer: it makes this event of the state, and a fault is that of this event.
-pub record WritesEvent {S : Type 0} (after : Writer S) (event : Event) (old : S) (had_failed : Bool) (new : S) (has_failed : Bool) (result : Result (Unit {0}) SerdeError) : Type 0 where
+-- What a call of a serializer says of its answer that makes this of the state, or refuses by this fault.
+pub record Makes {S : Type 0} (made : Result S SerdeError) (had_failed : Bool) (new : S) (has_failed : Bool) (result : Result (Unit {0}) SerdeError) : Type 0 where
   -- `Failed` comes exactly after a failure
   pub failed : IsErrOf result Failed ↔ (had_failed ≡ true)
   -- after an error, and only then, the serializer has failed
   pub broken : IsErr result ↔ (has_failed ≡ true)
-  pub ok : OnOk result (after event old ≡ Ok new)
-  pub refused : IfErr result (λ e. IsFault e → after event old ≡ Err e)
+  pub ok : OnOk result (made ≡ Ok new)
+  pub refused : IfErr result (λ e. IsFault e → made ≡ Err e)
+
+-- The call makes this event of the state, and a fault is that of this event.
+abbrev pub WritesEvent : {S : Type 0} → Writer S → Event → S → Bool → S → Bool → Result (Unit {0}) SerdeError → Type 0
+WritesEvent after event old had_failed new has_failed result = Makes (after event old) had_failed new has_failed result

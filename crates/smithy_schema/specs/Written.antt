@@ -1,10 +1,10 @@
 -- What a written value adds between the calls that begin and end its container.
-use Rattle.std.specs.Prelude.{◌≡◌, ◌↔◌, Bool, true, false, Result, Ok, Err, OnOk, ℤ, List, ◌∷◌, map}
+use Rattle.std.specs.Prelude.{◌≡◌, ◌↔◌, Bool, true, false, Result, Ok, Err, OnOk, IsErr, ℤ, List, ◌∷◌, map}
 use Rattle.smithy_schema.specs.declared.error.SerdeError.{SerdeError}
 use Rattle.smithy_schema.specs.declared.error.SerdeError.TheVariants.{Failed}
 use Rattle.smithy_declarations.specs.Value.{Value, scalar_value, whole as whole_number, list, values_of}
 use Rattle.smithy_schema.specs.Errors.{IsFault}
-use Rattle.smithy_schema.specs.Writing.{Event, Writer, Open, open_structure, run}
+use Rattle.smithy_schema.specs.Writing.{Event, Writer, Open, after_value, open_structure, run}
 
 -- What a call of a value does with any serializer, by what each call makes of its state: the state before, and the state
 -- after or the error that it answers.
@@ -34,6 +34,13 @@ pub data Wraps {S : Type 0} (after : Writer S) (begins ends : Event) (adds : S �
   not_begun : {e : SerdeError} → Refuses after begins s has_failed e → Wraps after begins ends adds has_failed s (Err e)
   not_written : {t : S} {e : SerdeError} → has_failed ≡ false → after begins s ≡ Ok t → adds t (Err e) → Wraps after begins ends adds has_failed s (Err e)
   not_ended : {t u : S} {e : SerdeError} → has_failed ≡ false → after begins s ≡ Ok t → adds t (Ok u) → Refuses after ends u false e → Wraps after begins ends adds has_failed s (Err e)
+
+-- What a call of a serializer says of its answer that writes a container, whose parts are written by one call: it counts as one value
+-- for the open containers, and the serializer has failed exactly where the answer is an error.
+pub record WritesContainer {S : Type 0} (after : Writer S) (open_in : S → List Open) (begins ends : Event) (adds : S → Result S SerdeError → Type 0) (old : S) (had_failed : Bool) (new : S) (has_failed : Bool) (result : Result (Unit {0}) SerdeError) : Type 0 where
+  pub wraps : Wraps after begins ends adds had_failed old (outcome result new)
+  pub nests : OnOk result (after_value (open_in old) ≡ Ok (open_in new))
+  pub broken : IsErr result ↔ (has_failed ≡ true)
 
 -- the innermost open container is this one
 abbrev pub IsInside : Open → List Open → Type 0

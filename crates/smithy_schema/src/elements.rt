@@ -1,8 +1,9 @@
 //! Lists of scalars that are read in one call.
 ghost use Rattle.std.specs.Prelude.{◌≡◌, [], true, false, IfOk, IsErr, string_bytes};
 ghost use Rattle.smithy_declarations.specs.declared.shape_type.Scalar.{Scalar};
+ghost use Rattle.smithy_declarations.specs.declared.shape_type.Scalar.TheVariants as scalars;
 ghost use Rattle.smithy_declarations.specs.Table.{IsList};
-ghost use Rattle.smithy_declarations.specs.Value.{ScalarValue};
+ghost use Rattle.smithy_declarations.specs.Value.{ScalarValue, text, bytes, whole, instant};
 ghost use Rattle.smithy_shapes.specs.Site.{site_of, kind_at};
 ghost use Rattle.smithy_schema.specs.Reading.{ReadsScalar};
 ghost use Rattle.smithy_schema.specs.Consuming.{reader};
@@ -34,9 +35,6 @@ pub trait ReadScalar {
 }
 
 impl ReadScalar for String {
-    ghost use Rattle.smithy_declarations.specs.declared.shape_type.Scalar.TheVariants as scalars;
-    ghost use Rattle.smithy_declarations.specs.Value.{text};
-
     ghost kind = { scalars.String };
 
     ghost scalar = { λ s. text (string_bytes s) };
@@ -50,9 +48,6 @@ impl ReadScalar for String {
 }
 
 impl ReadScalar for Blob {
-    ghost use Rattle.smithy_declarations.specs.declared.shape_type.Scalar.TheVariants as scalars;
-    ghost use Rattle.smithy_declarations.specs.Value.{bytes};
-
     ghost kind = { scalars.Blob };
 
     ghost scalar = { bytes };
@@ -66,9 +61,6 @@ impl ReadScalar for Blob {
 }
 
 impl ReadScalar for i32 {
-    ghost use Rattle.smithy_declarations.specs.declared.shape_type.Scalar.TheVariants as scalars;
-    ghost use Rattle.smithy_declarations.specs.Value.{whole};
-
     ghost kind = { scalars.Integer };
 
     ghost scalar = { whole };
@@ -82,9 +74,6 @@ impl ReadScalar for i32 {
 }
 
 impl ReadScalar for i64 {
-    ghost use Rattle.smithy_declarations.specs.declared.shape_type.Scalar.TheVariants as scalars;
-    ghost use Rattle.smithy_declarations.specs.Value.{whole};
-
     ghost kind = { scalars.Long };
 
     ghost scalar = { whole };
@@ -98,9 +87,6 @@ impl ReadScalar for i64 {
 }
 
 impl ReadScalar for DateTime {
-    ghost use Rattle.smithy_declarations.specs.declared.shape_type.Scalar.TheVariants as scalars;
-    ghost use Rattle.smithy_declarations.specs.Value.{instant};
-
     ghost kind = { scalars.Timestamp };
 
     ghost scalar = { instant };

@@ -1,18 +1,17 @@
 //! Reading a value as a schema directs.
-ghost use Rattle.std.specs.Prelude.{◌≡◌, ◌≤◌, ℕ, length, Option, Some, None, Bool, true, false, ◌&&◌, IfOk, IsOk, OnOk, IsErrOf, IsErr, MatchBool, MatchOption, string_bytes, FitsSigned, OnErr};
+ghost use Rattle.std.specs.Prelude.{◌≡◌, ◌≤◌, ℕ, length, true, false, IfOk, OnOk, IsErrOf, IsErr, string_bytes, FitsSigned, OnErr};
 ghost use Rattle.std.specs.Int.{w128};
 ghost use Rattle.smithy_texts.specs.Numeral.{number};
 ghost use Rattle.smithy_texts.specs.Decimal.{mantissa, net_exponent};
-ghost use Rattle.smithy_declarations.specs.declared.place.Place.{Place};
 ghost use Rattle.smithy_declarations.specs.declared.shape_type.Scalar.TheVariants as scalars;
-ghost use Rattle.smithy_declarations.specs.Table.{Table, kind_of, IsStructure, HasMembers, IsList, IsMap};
-ghost use Rattle.smithy_declarations.specs.Value.{Value, boolean, whole, text, bytes, decimal, instant};
+ghost use Rattle.smithy_declarations.specs.Table.{HasMembers, IsList, IsMap};
+ghost use Rattle.smithy_declarations.specs.Value.{boolean, whole, text, bytes, decimal, instant};
 ghost use Rattle.smithy_shapes.specs.Site.{site_of, kind_at};
-ghost use Rattle.smithy_schema.specs.Errors.{RefusesNoKind, IsRefused, IsInvalid, IsNoAnswer};
-ghost use Rattle.smithy_schema.specs.Containers.{Opens, GoesOnInStructure};
-ghost use Rattle.smithy_schema.specs.Reading.{ReadsScalar, ReadsDocument, AnswersWide, AnswersUncarried, Cursor, depth, Relations, Mark, IsLawful, StandsFit, CountsOpeners, IsBelow, Conducts, Passes, Steps, Leaves, CannotGoOn, SkipsNot, NullsNot, ReachesDepth, null_is_due, failed_at, in_structure, in_list, in_map};
-ghost use Rattle.smithy_schema.specs.declared.error.SerdeError.TheVariants.{TooDeep, NoMemory};
-ghost use Rattle.smithy_schema.specs.Consuming.{reader, Consumes, IsTaken, by_member, by_element, by_key};
+ghost use Rattle.smithy_schema.specs.Containers.{Opens, GoesOnInStructure, GoesOnInList, GoesOnInMap};
+ghost use Rattle.smithy_schema.specs.Passing.{ReadsNull, SkipsValue};
+ghost use Rattle.smithy_schema.specs.Reading.{ReadsScalar, ReadsDocument, AnswersWide, AnswersUncarried, Cursor, Relations, IsLawful, StandsFit, CountsOpeners, IsBelow, null_is_due, failed_at, in_structure, in_list, in_map};
+ghost use Rattle.smithy_schema.specs.declared.error.SerdeError.TheVariants.{NoMemory};
+ghost use Rattle.smithy_schema.specs.Consuming.{reader, ReadsEntries, by_member, by_element, by_key};
 ghost use Rattle.smithy_schema.specs.Sizes.{Sizes, TellsSize};
 ghost use Rattle.smithy_schema.specs.Elements.{ReadsList, items_of};
 ghost use Rattle.smithy_schema.specs.TextMaps.{ReadsTexts, entries_of};
@@ -93,17 +92,7 @@ pub trait ShapeDeserializer {
     fn next_element(&mut self) -> Result<bool, SerdeError>
         requires within { (state self.old).inner.within ≡ in_list }
         ensures same { settings self.new ≡ settings self.old }
-        ensures conduct { Conducts (state self.old) (state self.new) result }
-        ensures narrow { RefusesNoKind result }
-        ensures memory { IsErrOf result NoMemory → ⊥ }
-        ensures shallow { IsErrOf result TooDeep → ⊥ }
-        ensures unread { (state self.old).due ≡ true → IsNoAnswer result }
-        ensures ok { (state self.old).due ≡ false → (t : Table) (p : Place) → IsList (kind_of t p)
-            → IfOk result (λ b. MatchBool b (Steps (wire (settings self.old)) (state self.old) (state self.new) t p None) (Leaves (wire (settings self.old)) (state self.old) (state self.new) t p)) }
-        ensures refused { IsRefused result → (state self.old).due ≡ false → (t : Table) (p : Place) → IsList (kind_of t p)
-            → CannotGoOn (wire (settings self.old)) (state self.old) t p }
-        ensures none_without_limits { tells_without_limits (settings self.old) → IsInvalid result → (state self.old).due ≡ false → (t : Table) (p : Place) → IsList (kind_of t p)
-            → CannotGoOn (lifted (settings self.old)) (state self.old) t p };
+        ensures goes_on { GoesOnInList (wire (settings self.old)) (lifted (settings self.old)) (tells_without_limits (settings self.old)) (state self.old) (state self.new) result };
 
     /// Enters the map that is due. Where a map begins here, it is `TooDeep` exactly at the greatest depth.
     fn open_map(&mut self, schema: &Schema<'_>) -> Result<(), SerdeError>
@@ -116,17 +105,7 @@ pub trait ShapeDeserializer {
     fn next_key(&mut self) -> Result<Option<String>, SerdeError>
         requires within { (state self.old).inner.within ≡ in_map }
         ensures same { settings self.new ≡ settings self.old }
-        ensures conduct { Conducts (state self.old) (state self.new) result }
-        ensures narrow { RefusesNoKind result }
-        ensures shallow { IsErrOf result TooDeep → ⊥ }
-        ensures unread { (state self.old).due ≡ true → IsNoAnswer result }
-        ensures ok { (state self.old).due ≡ false → (t : Table) (p : Place) → IsMap (kind_of t p)
-            → IfOk result (λ next. MatchOption next (Leaves (wire (settings self.old)) (state self.old) (state self.new) t p)
-            (λ key. Steps (wire (settings self.old)) (state self.old) (state self.new) t p (Some (string_bytes key)))) }
-        ensures refused { IsRefused result → (state self.old).due ≡ false → (t : Table) (p : Place) → IsMap (kind_of t p)
-            → CannotGoOn (wire (settings self.old)) (state self.old) t p }
-        ensures none_without_limits { tells_without_limits (settings self.old) → IsInvalid result → (state self.old).due ≡ false → (t : Table) (p : Place) → IsMap (kind_of t p)
-            → CannotGoOn (lifted (settings self.old)) (state self.old) t p };
+        ensures goes_on { GoesOnInMap (wire (settings self.old)) (lifted (settings self.old)) (tells_without_limits (settings self.old)) string_bytes (state self.old) (state self.new) result };
 
     /// Whether the value that is due is a null.
     fn is_null(&self) -> bool
@@ -135,28 +114,12 @@ pub trait ShapeDeserializer {
     /// Reads the null that is due. Where none is due, a wire may do nothing or refuse. It takes no memory.
     fn read_null(&mut self) -> Result<(), SerdeError>
         ensures same { settings self.new ≡ settings self.old }
-        ensures conduct { Conducts (state self.old) (state self.new) result }
-        ensures narrow { RefusesNoKind result }
-        ensures memory { IsErrOf result NoMemory → ⊥ }
-        ensures shallow { IsErrOf result TooDeep → ⊥ }
-        ensures ok { null_is_due (wire (settings self.old)) (state self.old) ≡ true → OnOk result ((wire (settings self.old)).nulls (state self.old).input (depth (state self.old)) (state self.old).at (state self.new).at) }
-        ensures passes { null_is_due (wire (settings self.old)) (state self.old) ≡ true → OnOk result (Passes (state self.old) (state self.new)) }
-        ensures refused { null_is_due (wire (settings self.old)) (state self.old) ≡ true → IsRefused result → NullsNot (wire (settings self.old)) (state self.old) }
-        ensures none_without_limits { tells_without_limits (settings self.old) → null_is_due (wire (settings self.old)) (state self.old) ≡ true → IsInvalid result → NullsNot (lifted (settings self.old)) (state self.old) }
-        ensures nothing { null_is_due (wire (settings self.old)) (state self.old) ≡ false → OnOk result (state self.new ≡ state self.old) };
+        ensures reads { ReadsNull (wire (settings self.old)) (lifted (settings self.old)) (tells_without_limits (settings self.old)) (state self.old) (state self.new) result };
 
     /// Skips the value that is due, whatever it is.
     fn skip_value(&mut self) -> Result<(), SerdeError>
         ensures same { settings self.new ≡ settings self.old }
-        ensures conduct { Conducts (state self.old) (state self.new) result }
-        ensures narrow { RefusesNoKind result }
-        ensures undue { (state self.old).due ≡ false → IsNoAnswer result }
-        ensures ok { OnOk result ((wire (settings self.old)).skips (state self.old).input (depth (state self.old)) (state self.old).at (state self.new).at) }
-        ensures passes { OnOk result (Passes (state self.old) (state self.new)) }
-        ensures refused { IsRefused result → (state self.old).due ≡ true → SkipsNot (wire (settings self.old)) (state self.old) }
-        ensures none_without_limits { tells_without_limits (settings self.old) → IsInvalid result → (state self.old).due ≡ true → SkipsNot (lifted (settings self.old)) (state self.old) }
-        ensures deep { IsErrOf result TooDeep → ReachesDepth (wire (settings self.old)) (max_depth (settings self.old)) (state self.old) }
-        ensures limited { IsErrOf result TooDeep → (wire (settings self.old)).limits_skips ≡ true };
+        ensures skips { SkipsValue (wire (settings self.old)) (lifted (settings self.old)) (tells_without_limits (settings self.old)) (max_depth (settings self.old)) (state self.old) (state self.new) result };
 
     /// How many elements or entries the list, map, structure or union has that is due, as far as the wire tells it before
     /// they are read: what is told needn't be true. The reader stays where it is, after want of memory too.
@@ -245,9 +208,7 @@ pub trait ShapeDeserializer {
         requires place { HasMembers (kind_at (site_of schema.now)) }
         requires allowed { C.can_take consumer.old (site_of schema.now) }
         ensures same { settings self.new ≡ settings self.old }
-        ensures consumes { let r = reader (wire (settings self.old)) (lifted (settings self.old)) (tells_without_limits (settings self.old)) (max_depth (settings self.old)) in Consumes r (site_of schema.now) in_structure (by_member r (site_of schema.now)) (C.call r) consumer.old (state self.old) result consumer.new (state self.new) }
-        ensures takes { OnOk result (IsTaken (state self.old) (state self.new)) }
-        ensures fails { OnErr result ((state self.new).failed ≡ true) }
+        ensures reads { let r = reader (wire (settings self.old)) (lifted (settings self.old)) (tells_without_limits (settings self.old)) (max_depth (settings self.old)) in ReadsEntries r (site_of schema.now) in_structure (by_member r (site_of schema.now)) (C.call r) consumer.old (state self.old) result consumer.new (state self.new) }
         ensures allowed { OnOk result (C.can_take consumer.new (site_of schema.now)) }
     {
         self.open_struct(schema)?;
@@ -273,9 +234,7 @@ pub trait ShapeDeserializer {
         Self: Sized,
         requires place { IsList (kind_at (site_of schema.now)) }
         ensures same { settings self.new ≡ settings self.old }
-        ensures consumes { let r = reader (wire (settings self.old)) (lifted (settings self.old)) (tells_without_limits (settings self.old)) (max_depth (settings self.old)) in Consumes r (site_of schema.now) in_list (by_element r (site_of schema.now)) (λ element. C.call r) consumer.old (state self.old) result consumer.new (state self.new) }
-        ensures takes { OnOk result (IsTaken (state self.old) (state self.new)) }
-        ensures fails { OnErr result ((state self.new).failed ≡ true) }
+        ensures reads { let r = reader (wire (settings self.old)) (lifted (settings self.old)) (tells_without_limits (settings self.old)) (max_depth (settings self.old)) in ReadsEntries r (site_of schema.now) in_list (by_element r (site_of schema.now)) (λ element. C.call r) consumer.old (state self.old) result consumer.new (state self.new) }
     {
         self.open_list(schema)?;
         while self.next_element()? {
@@ -297,9 +256,7 @@ pub trait ShapeDeserializer {
         Self: Sized,
         requires place { IsMap (kind_at (site_of schema.now)) }
         ensures same { settings self.new ≡ settings self.old }
-        ensures consumes { let r = reader (wire (settings self.old)) (lifted (settings self.old)) (tells_without_limits (settings self.old)) (max_depth (settings self.old)) in Consumes r (site_of schema.now) in_map (by_key r (site_of schema.now)) (C.call r) consumer.old (state self.old) result consumer.new (state self.new) }
-        ensures takes { OnOk result (IsTaken (state self.old) (state self.new)) }
-        ensures fails { OnErr result ((state self.new).failed ≡ true) }
+        ensures reads { let r = reader (wire (settings self.old)) (lifted (settings self.old)) (tells_without_limits (settings self.old)) (max_depth (settings self.old)) in ReadsEntries r (site_of schema.now) in_map (by_key r (site_of schema.now)) (C.call r) consumer.old (state self.old) result consumer.new (state self.new) }
     {
         self.open_map(schema)?;
         while let Some(key) = self.next_key()? {

@@ -1,5 +1,5 @@
 //! Writing a value as a schema directs.
-ghost use Rattle.std.specs.Prelude.{◌++◌, ◌≡◌, ◌≢◌, ◌↔◌, ℕ, List, [], Option, Bool, true, IfOk, IfErr, OnOk, IsErr, IsErrOf, Result, Ok, Err};
+ghost use Rattle.std.specs.Prelude.{◌++◌, ◌≡◌, ◌≢◌, ◌↔◌, ℕ, List, [], Option, Bool, true, IfOk, IfErr, OnOk, IsErrOf, Result, Ok, Err};
 ghost use Rattle.smithy_types.specs.Document.{whole_document};
 ghost use Rattle.smithy_types.specs.DocumentView.{document_view};
 ghost use Rattle.smithy_schema.specs.declared.error.SerdeError.{SerdeError};
@@ -8,9 +8,9 @@ ghost use Rattle.smithy_declarations.specs.Table.{IsList};
 ghost use Rattle.smithy_shapes.specs.Site.{site_of, kind_at};
 ghost use Rattle.smithy_declarations.specs.Value.{boolean, whole, text, bytes, decimal, instant};
 ghost use Rattle.smithy_schema.specs.Errors.{IsFault};
-ghost use Rattle.smithy_schema.specs.Writing.{Event, Writer, Open, IsNested, WritesEvent, begin_structure, end_structure, begin_list as list_begins, end_list as list_ends, begin_map as map_begins, end_map as map_ends, null_of, scalar_of, big_integer_of, big_decimal_of, document_of};
+ghost use Rattle.smithy_schema.specs.Writing.{Event, Writer, Open, IsNested, Makes, WritesEvent, begin_structure, end_structure, begin_list as list_begins, end_list as list_ends, begin_map as map_begins, end_map as map_ends, null_of, scalar_of, big_integer_of, big_decimal_of, document_of};
 ghost use Rattle.smithy_schema.specs.Writing.{write, after_value, open_list, open_map_at_key};
-ghost use Rattle.smithy_schema.specs.Written.{Wraps, outcome, list_of_wholes};
+ghost use Rattle.smithy_schema.specs.Written.{WritesContainer, list_of_wholes};
 
 use crate::error::SerdeError;
 use crate::written::{SerializableStruct, WriteElements};
@@ -153,9 +153,7 @@ pub trait ShapeSerializer {
     ) -> Result<(), SerdeError>
     where
         Self: Sized,
-        ensures wraps { Wraps after (begin_structure (site_of schema.now)) end_structure (V.adds State after value.now) (failed self.old) (state self.old) (outcome result (state self.new)) }
-        ensures nests { OnOk result (after_value (open_in (state self.old)) ≡ Ok (open_in (state self.new))) }
-        ensures broken { IsErr result ↔ (failed self.new ≡ true) }
+        ensures { WritesContainer after open_in (begin_structure (site_of schema.now)) end_structure (V.adds State after value.now) (state self.old) (failed self.old) (state self.new) (failed self.new) result }
     {
         self.begin_struct(schema)?;
         if let Err(error) = value.serialize_members(self) {
@@ -174,9 +172,7 @@ pub trait ShapeSerializer {
     where
         Self: Sized,
         requires { V.can_stand elements.now open_list }
-        ensures wraps { Wraps after (list_begins (site_of schema.now) None) list_ends (V.adds State after elements.now) (failed self.old) (state self.old) (outcome result (state self.new)) }
-        ensures nests { OnOk result (after_value (open_in (state self.old)) ≡ Ok (open_in (state self.new))) }
-        ensures broken { IsErr result ↔ (failed self.new ≡ true) }
+        ensures { WritesContainer after open_in (list_begins (site_of schema.now) None) list_ends (V.adds State after elements.now) (state self.old) (failed self.old) (state self.new) (failed self.new) result }
     {
         self.begin_list(schema, None)?;
         if let Err(error) = elements.write(self) {
@@ -196,9 +192,7 @@ pub trait ShapeSerializer {
     where
         Self: Sized,
         requires { V.can_stand elements.now open_list }
-        ensures wraps { Wraps after (list_begins (site_of schema.now) (Some length)) list_ends (V.adds State after elements.now) (failed self.old) (state self.old) (outcome result (state self.new)) }
-        ensures nests { OnOk result (after_value (open_in (state self.old)) ≡ Ok (open_in (state self.new))) }
-        ensures broken { IsErr result ↔ (failed self.new ≡ true) }
+        ensures { WritesContainer after open_in (list_begins (site_of schema.now) (Some length)) list_ends (V.adds State after elements.now) (state self.old) (failed self.old) (state self.new) (failed self.new) result }
     {
         self.begin_list(schema, Some(length))?;
         if let Err(error) = elements.write(self) {
@@ -217,9 +211,7 @@ pub trait ShapeSerializer {
     where
         Self: Sized,
         requires { V.can_stand entries.now open_map_at_key }
-        ensures wraps { Wraps after (map_begins (site_of schema.now) None) map_ends (V.adds State after entries.now) (failed self.old) (state self.old) (outcome result (state self.new)) }
-        ensures nests { OnOk result (after_value (open_in (state self.old)) ≡ Ok (open_in (state self.new))) }
-        ensures broken { IsErr result ↔ (failed self.new ≡ true) }
+        ensures { WritesContainer after open_in (map_begins (site_of schema.now) None) map_ends (V.adds State after entries.now) (state self.old) (failed self.old) (state self.new) (failed self.new) result }
     {
         self.begin_map(schema, None)?;
         if let Err(error) = entries.write(self) {
@@ -239,9 +231,7 @@ pub trait ShapeSerializer {
     where
         Self: Sized,
         requires { V.can_stand entries.now open_map_at_key }
-        ensures wraps { Wraps after (map_begins (site_of schema.now) (Some length)) map_ends (V.adds State after entries.now) (failed self.old) (state self.old) (outcome result (state self.new)) }
-        ensures nests { OnOk result (after_value (open_in (state self.old)) ≡ Ok (open_in (state self.new))) }
-        ensures broken { IsErr result ↔ (failed self.new ≡ true) }
+        ensures { WritesContainer after open_in (map_begins (site_of schema.now) (Some length)) map_ends (V.adds State after entries.now) (state self.old) (failed self.old) (state self.new) (failed self.new) result }
     {
         self.begin_map(schema, Some(length))?;
         if let Err(error) = entries.write(self) {
@@ -260,10 +250,7 @@ pub trait ShapeSerializer {
     where
         Self: Sized,
         requires place { IsList (kind_at (site_of schema.now)) }
-        ensures failed { IsErrOf result Failed ↔ (failed self.old ≡ true) }
-        ensures broken { IsErr result ↔ (failed self.new ≡ true) }
-        ensures ok { OnOk result (write after (site_of schema.now) (list_of_wholes values.now) (state self.old) ≡ Ok (state self.new)) }
-        ensures refused { IfErr result (λ e. IsFault e → write after (site_of schema.now) (list_of_wholes values.now) (state self.old) ≡ Err e) }
+        ensures writes { Makes (write after (site_of schema.now) (list_of_wholes values.now) (state self.old)) (failed self.old) (state self.new) (failed self.new) result }
         ensures nests { OnOk result (after_value (open_in (state self.old)) ≡ Ok (open_in (state self.new))) }
     {
         let Some(member) = schema.member() else {

@@ -11,6 +11,7 @@ use Rattle.smithy_schema.specs.Errors.{IsOfReader, FindsNone, TellsType, IsRefus
 use Rattle.smithy_schema.specs.Containers.{Opens, GoesOnInStructure}
 use Rattle.smithy_schema.specs.Reading.{Cursor, Frame, ContainerKind, depth, Relations, IsLawful, Conducts, OpensNot, MatchStep, CannotGoOn, ReachesDepth, failed_at, passed_to}
 use Rattle.smithy_wire.specs.Finding.{EntersInto}
+use Rattle.smithy_wire.specs.Stepping.{StepsFrom}
 use Rattle.smithy_wire.specs.Walking.{entered_into}
 use Rattle.smithy_wire.proofs.ScalarReads.{conducts, goes_on}
 
@@ -111,24 +112,20 @@ module _ (w u : Relations) (tells_without_limits : Type 0) (max : ℕ) (site : S
   -- ---- what comes next in a structure or a union
 
   -- where no value was due
-  pub steps_undue : (old new : Cursor) (result : Result Step SerdeError) → old.due ≡ false → Conducts old new result → RefusesNoKind result
-      → IfOk result (λ step. MatchStep step w (passed_to old old.at) new site)
-      → (IsRefused result → CannotGoOn w (passed_to old old.at) site.table site.place)
-      → (tells_without_limits → IsInvalid result → CannotGoOn u (passed_to old old.at) site.table site.place)
-      → (IsErrOf result TooDeep → ReachesDepth w max old) → (IsErrOf result TooDeep → w.limits_skips ≡ true)
-      → GoesOnInStructure w u tells_without_limits max old new site result
-  steps_undue old new result undue conduct narrow ok refused none_without_limits deep limited =
+  pub steps_undue : (old new : Cursor) (result : Result Step SerdeError) → old.due ≡ false → StepsFrom w u max old old.at new site result
+      → (IsErrOf result TooDeep → w.limits_skips ≡ true) → GoesOnInStructure w u tells_without_limits max old new site result
+  steps_undue old new result undue from limited =
       let same : passed_to old old.at ≡ old = ap (λ (due : Bool). record old { due = due }) (sym undue) in
       record {
-        conduct = conduct;
-        narrow = narrow;
-        ok = λ here. subst (λ c. IfOk result (λ step. MatchStep step w c new site)) same ok;
-        refused = λ fault here. subst (λ c. CannotGoOn w c site.table site.place) same (refused fault);
-        none_without_limits = λ strict fault here. subst (λ c. CannotGoOn u c site.table site.place) same (none_without_limits strict fault);
+        conduct = from.conduct;
+        narrow = from.narrow;
+        ok = λ here. subst (λ c. IfOk result (λ step. MatchStep step w c new site)) same from.ok;
+        refused = λ fault here. subst (λ c. CannotGoOn w c site.table site.place) same (from.refused fault);
+        none_without_limits = λ strict fault here. subst (λ c. CannotGoOn u c site.table site.place) same (from.none_without_limits fault);
         unread = λ due. absurd (let both : true ≡ false = sym due ∙ undue in cc);
         unread_refused = λ fault due. absurd (let both : true ≡ false = sym due ∙ undue in cc);
         unread_would = λ strict fault due. absurd (let both : true ≡ false = sym due ∙ undue in cc);
-        deep = deep;
+        deep = from.deep;
         limited = limited;
       }
 
@@ -155,14 +152,53 @@ module _ (w u : Relations) (tells_without_limits : Type 0) (max : ℕ) (site : S
   -- where it ends at a place
   pub steps_behind : (old new : Cursor) (result : Result Step SerdeError) (end : ℕ) → old.due ≡ true → w.skips old.input (depth old) old.at end
       → ((e : ℕ) → w.skips old.input (depth old) old.at e → end ≡ e) → ((e : ℕ) → u.skips old.input (depth old) old.at e → end ≡ e)
-      → Conducts old new result → RefusesNoKind result → IfOk result (λ step. MatchStep step w (passed_to old end) new site)
-      → (IsRefused result → CannotGoOn w (passed_to old end) site.table site.place)
-      → (tells_without_limits → IsInvalid result → CannotGoOn u (passed_to old end) site.table site.place)
+      → StepsFrom w u max old end new site result
       → (IsErrOf result TooDeep → ReachesDepth w max old) → (IsErrOf result TooDeep → w.limits_skips ≡ true)
       → GoesOnInStructure w u tells_without_limits max old new site result
-  steps_behind old new result end due skips same same_lifted conduct narrow ok refused none_without_limits =
-      steps_past old new result due conduct narrow
+  steps_behind old new result end due skips same same_lifted from =
+      steps_past old new result due from.conduct from.narrow
       (IfOk-weaker result (λ step. MatchStep step w (passed_to old end) new site) (λ step. (e : ℕ) × w.skips old.input (depth old) old.at e × MatchStep step w (passed_to old e) new site)
-      (λ step steps. (end, skips, steps)) ok)
-      (λ fault e there. subst (λ e. CannotGoOn w (passed_to old e) site.table site.place) (same e there) (refused fault))
-      (λ strict fault e there. subst (λ e. CannotGoOn u (passed_to old e) site.table site.place) (same_lifted e there) (none_without_limits strict fault))
+      (λ step steps. (end, skips, steps)) from.ok)
+      (λ fault e there. subst (λ e. CannotGoOn w (passed_to old e) site.table site.place) (same e there) (from.refused fault))
+      (λ strict fault e there. subst (λ e. CannotGoOn u (passed_to old e) site.table site.place) (same_lifted e there) (from.none_without_limits fault))
+
+  -- what is said whatever the settings are is said under these
+  pub steps_always : (old new : Cursor) (result : Result Step SerdeError) → GoesOnInStructure w u (Unit {0}) max old new site result
+      → GoesOnInStructure w u tells_without_limits max old new site result
+  steps_always old new result said = record {
+    conduct = said.conduct;
+    narrow = said.narrow;
+    ok = said.ok;
+    refused = said.refused;
+    none_without_limits = λ strict. said.none_without_limits tt;
+    unread = said.unread;
+    unread_refused = said.unread_refused;
+    unread_would = λ strict. said.unread_would tt;
+    deep = said.deep;
+    limited = said.limited;
+  }
+
+module _ (w u : Relations) (max : ℕ) (site : Site) (old new : Cursor) (at : ℕ) where
+  -- the step is to an entry, or out of the structure
+  pub stepped : (step : Step) → Conducts old new (Ok step) → MatchStep step w (passed_to old at) new site → StepsFrom w u max old at new site (Ok step)
+  stepped step conduct steps = record {
+    conduct = conduct;
+    narrow = (((λ h. cc), λ h. cc), λ h. cc);
+    ok = steps;
+    refused = λ fault. absurd fault;
+    none_without_limits = λ fault. absurd fault;
+    deep = λ h. cc;
+  }
+
+  -- neither comes
+  pub stuck : (error : SerdeError) → error ≡ InvalidInput → new ≡ failed_at old → old.at ≤ length old.input → old.failed ≡ false
+      → CannotGoOn w (passed_to old at) site.table site.place → CannotGoOn u (passed_to old at) site.table site.place
+      → StepsFrom w u max old at new site (Err error)
+  stuck error is stays within sound none none_lifted = rw is (record {
+    conduct = conducts old new InvalidInput stays within sound (λ h. cc) tt;
+    narrow = (((λ h. cc), λ h. cc), λ h. cc);
+    ok = tt;
+    refused = λ fault. none;
+    none_without_limits = λ fault. none_lifted;
+    deep = λ h. cc;
+  })

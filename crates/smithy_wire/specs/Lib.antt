@@ -18,6 +18,7 @@ pub mod Writes
 pub mod Narrowing
 -- where a reader stands, what it finds there, and which containers a serializer has open
 pub mod Walking
+pub mod Stepping
 pub mod Finding
 pub mod OpenContainers
 -- what the laws are proved by

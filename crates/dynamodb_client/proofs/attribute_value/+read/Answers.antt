@@ -392,8 +392,8 @@ read_attributes-returns-in_err-key-clause-reads g t c =
     let half = c.loop-entries.invariant.half in
     let same = c.loop-entries.invariant.same in
     let p = err_from_is_err_and c.from_residual-in_err-key.result c.from_residual-in_err-key.ensures.1 in
-    rw (p.1, p.2) (goes_no_further w max laws (λ m. map (attribute_entries m.entries)) outer _ _ _ _ _ _ half (was_read _ _ c.in_ok-open_map.ensures.opens.conduct.failed) c.in_err-key.ensures.conduct
-    (λ fault due. rw same at (c.in_err-key.ensures.refused fault due c.args.schema.now.shapes.now c.args.schema.now.place kind)))
+    rw (p.1, p.2) (goes_no_further w max laws (λ m. map (attribute_entries m.entries)) outer _ _ _ _ _ _ half (was_read _ _ c.in_ok-open_map.ensures.opens.conduct.failed) c.in_err-key.ensures.goes_on.conduct
+    (λ fault due. rw same at (c.in_err-key.ensures.goes_on.refused fault due c.args.schema.now.shapes.now c.args.schema.now.place kind)))
 
 pub read_attributes-read_attribute_value-requires : goal.read_attributes-read_attribute_value-requires
 read_attributes-read_attribute_value-requires g t c κs within =
@@ -407,7 +407,7 @@ read_attributes-read_attribute_value-requires g t c κs within =
     let inside = entries_inside outer (site_of c.in-Some.inner) c.requires.place c.in-Some.ensures in
     let half = c.loop-entries.invariant.half in
     let kept = c.loop-entries.invariant.same in
-    let step = rw (c.in-Some-2.is, kept) at (c.in_ok-key.ensures.ok half.due c.args.schema.now.shapes.now c.args.schema.now.place kind) in
+    let step = rw (c.in-Some-2.is, kept) at (c.in_ok-key.ensures.goes_on.ok half.due c.args.schema.now.shapes.now c.args.schema.now.place kind) in
     let same = c.next_key.ensures.same ∙ kept in
     let most : d.max_depth (d.settings c.next_key.new.self) ≡ max = ap d.max_depth same in
     let level : depth (d.state c.next_key.new.self) ≡ suc (depth (d.state c.args.source.now)) = ap length (step.outer ∙ half.outer) in
@@ -426,7 +426,7 @@ read_attributes-returns-in_err-value-clause-reads g t c =
     let inside = entries_inside outer (site_of c.in-Some.inner) c.requires.place c.in-Some.ensures in
     let half = c.loop-entries.invariant.half in
     let same = c.loop-entries.invariant.same in
-    let step = rw (c.in-Some-2.is, same) at (c.in_ok-key.ensures.ok half.due c.args.schema.now.shapes.now c.args.schema.now.place kind) in
+    let step = rw (c.in-Some-2.is, same) at (c.in_ok-key.ensures.goes_on.ok half.due c.args.schema.now.shapes.now c.args.schema.now.place kind) in
     let p = err_from_is_err_and c.from_residual-in_err-value.result c.from_residual-in_err-value.ensures.1 in
     rw (p.1, p.2) (entry_fails w max laws attribute_value (λ m. map (attribute_entries m.entries)) outer (site_of c.in-Some.inner) _ _ _ _ _ _ _ kind inside.0 half (was_read _ _ c.in_ok-open_map.ensures.opens.conduct.failed) step (rw (c.next_key.ensures.same, same) at c.in_err-value.ensures.reads))
 
@@ -449,7 +449,7 @@ read_attributes-loop-entries-preserved g t c =
     let inside = entries_inside outer (site_of c.in-Some.inner) c.requires.place c.in-Some.ensures in
     let half = c.loop-entries.invariant.half in
     let same = c.loop-entries.invariant.same in
-    let step = rw (c.in-Some-2.is, same) at (c.in_ok-key.ensures.ok half.due c.args.schema.now.shapes.now c.args.schema.now.place kind) in
+    let step = rw (c.in-Some-2.is, same) at (c.in_ok-key.ensures.goes_on.ok half.due c.args.schema.now.shapes.now c.args.schema.now.place kind) in
     let reads = rw (c.next_key.ensures.same, same) at c.in_ok-value.ensures.reads in
     record {
       same = c.read_attribute_value.ensures.same ∙ c.next_key.ensures.same ∙ same;
@@ -468,7 +468,7 @@ read_attributes-returns-clause-reads g t c =
     let inside = entries_inside outer (site_of c.in-Some.inner) c.requires.place c.in-Some.ensures in
     let half = c.loop-entries.invariant.half in
     let same = c.loop-entries.invariant.same in
-    let leaves = rw (c.in_default-2.is, same) at (c.in_ok-key.ensures.ok half.due c.args.schema.now.shapes.now c.args.schema.now.place kind) in
+    let leaves = rw (c.in_default-2.is, same) at (c.in_ok-key.ensures.goes_on.ok half.due c.args.schema.now.shapes.now c.args.schema.now.place kind) in
     ends w max laws (λ m. map (attribute_entries m.entries)) outer _ _ _ _ _ _ half (was_read _ _ c.in_ok-open_map.ensures.opens.conduct.failed) leaves refl
 
 pub read_attributes-loop-entries-smaller : goal.read_attributes-loop-entries-smaller
@@ -483,7 +483,7 @@ read_attributes-loop-entries-smaller g t c =
     let inside = entries_inside outer (site_of c.in-Some.inner) c.requires.place c.in-Some.ensures in
     let half = c.loop-entries.invariant.half in
     let same = c.loop-entries.invariant.same in
-    let step = rw (c.in-Some-2.is, same) at (c.in_ok-key.ensures.ok half.due c.args.schema.now.shapes.now c.args.schema.now.place kind) in
+    let step = rw (c.in-Some-2.is, same) at (c.in_ok-key.ensures.goes_on.ok half.due c.args.schema.now.shapes.now c.args.schema.now.place kind) in
     let reads = rw (c.next_key.ensures.same, same) at c.in_ok-value.ensures.reads in
     rw (c.read_attribute_value.ensures.same, c.next_key.ensures.same, same)
     (map_falls w max laws attribute_value outer (site_of c.in-Some.inner) _ _ _ _ _ (string_bytes c.in-Some-2.key) _ kind inside.0 half step reads)
@@ -536,8 +536,8 @@ read_attribute_list-returns-in_err-next_element-clause-reads g t c =
     let half = c.loop-values.invariant.half in
     let same = c.loop-values.invariant.same in
     let p = err_from_is_err_and c.from_residual-in_err-next_element.result c.from_residual-in_err-next_element.ensures.1 in
-    rw (p.1, p.2) (goes_no_further w max laws (λ v. list (values_of (attribute_values v.items))) outer _ _ _ _ _ _ half (was_read _ _ c.in_ok-open_list.ensures.opens.conduct.failed) c.in_err-next_element.ensures.conduct
-    (λ fault due. rw same at (c.in_err-next_element.ensures.refused fault due c.args.schema.now.shapes.now c.args.schema.now.place kind)))
+    rw (p.1, p.2) (goes_no_further w max laws (λ v. list (values_of (attribute_values v.items))) outer _ _ _ _ _ _ half (was_read _ _ c.in_ok-open_list.ensures.opens.conduct.failed) c.in_err-next_element.ensures.goes_on.conduct
+    (λ fault due. rw same at (c.in_err-next_element.ensures.goes_on.refused fault due c.args.schema.now.shapes.now c.args.schema.now.place kind)))
 
 pub read_attribute_list-read_attribute_value-requires : goal.read_attribute_list-read_attribute_value-requires
 read_attribute_list-read_attribute_value-requires g t c κs within =
@@ -551,7 +551,7 @@ read_attribute_list-read_attribute_value-requires g t c κs within =
     let inside = elements_inside outer (site_of c.in-Some.inner) c.requires.place c.in-Some.ensures in
     let half = c.loop-values.invariant.half in
     let kept = c.loop-values.invariant.same in
-    let step = rw (c.if-branch.true, kept) at (c.in_ok-next_element.ensures.ok half.due c.args.schema.now.shapes.now c.args.schema.now.place kind) in
+    let step = rw (c.if-branch.true, kept) at (c.in_ok-next_element.ensures.goes_on.ok half.due c.args.schema.now.shapes.now c.args.schema.now.place kind) in
     let same = c.next_element.ensures.same ∙ kept in
     let most : d.max_depth (d.settings c.next_element.new.self) ≡ max = ap d.max_depth same in
     let level : depth (d.state c.next_element.new.self) ≡ suc (depth (d.state c.args.source.now)) = ap length (step.outer ∙ half.outer) in
@@ -570,7 +570,7 @@ read_attribute_list-returns-in_err-value-clause-reads g t c =
     let inside = elements_inside outer (site_of c.in-Some.inner) c.requires.place c.in-Some.ensures in
     let half = c.loop-values.invariant.half in
     let same = c.loop-values.invariant.same in
-    let step = rw (c.if-branch.true, same) at (c.in_ok-next_element.ensures.ok half.due c.args.schema.now.shapes.now c.args.schema.now.place kind) in
+    let step = rw (c.if-branch.true, same) at (c.in_ok-next_element.ensures.goes_on.ok half.due c.args.schema.now.shapes.now c.args.schema.now.place kind) in
     let p = err_from_is_err_and c.from_residual-in_err-value.result c.from_residual-in_err-value.ensures.1 in
     rw (p.1, p.2) (element_fails w max laws attribute_value (λ v. list (values_of (attribute_values v.items))) outer (site_of c.in-Some.inner) _ _ _ _ _ _ kind inside.0 half (was_read _ _ c.in_ok-open_list.ensures.opens.conduct.failed) step (rw (c.next_element.ensures.same, same) at c.in_err-value.ensures.reads))
 
@@ -593,7 +593,7 @@ read_attribute_list-loop-values-preserved g t c =
     let inside = elements_inside outer (site_of c.in-Some.inner) c.requires.place c.in-Some.ensures in
     let half = c.loop-values.invariant.half in
     let same = c.loop-values.invariant.same in
-    let step = rw (c.if-branch.true, same) at (c.in_ok-next_element.ensures.ok half.due c.args.schema.now.shapes.now c.args.schema.now.place kind) in
+    let step = rw (c.if-branch.true, same) at (c.in_ok-next_element.ensures.goes_on.ok half.due c.args.schema.now.shapes.now c.args.schema.now.place kind) in
     let reads = rw (c.next_element.ensures.same, same) at c.in_ok-value.ensures.reads in
     record {
       same = c.read_attribute_value.ensures.same ∙ c.next_element.ensures.same ∙ same;
@@ -612,7 +612,7 @@ read_attribute_list-returns-clause-reads g t c =
     let inside = elements_inside outer (site_of c.in-Some.inner) c.requires.place c.in-Some.ensures in
     let half = c.loop-values.invariant.half in
     let same = c.loop-values.invariant.same in
-    let leaves = rw (c.if-branch.false, same) at (c.in_ok-next_element.ensures.ok half.due c.args.schema.now.shapes.now c.args.schema.now.place kind) in
+    let leaves = rw (c.if-branch.false, same) at (c.in_ok-next_element.ensures.goes_on.ok half.due c.args.schema.now.shapes.now c.args.schema.now.place kind) in
     ends w max laws (λ v. list (values_of (attribute_values v.items))) outer _ _ _ _ _ _ half (was_read _ _ c.in_ok-open_list.ensures.opens.conduct.failed) leaves refl
 
 pub read_attribute_list-loop-values-smaller : goal.read_attribute_list-loop-values-smaller
@@ -627,7 +627,7 @@ read_attribute_list-loop-values-smaller g t c =
     let inside = elements_inside outer (site_of c.in-Some.inner) c.requires.place c.in-Some.ensures in
     let half = c.loop-values.invariant.half in
     let same = c.loop-values.invariant.same in
-    let step = rw (c.if-branch.true, same) at (c.in_ok-next_element.ensures.ok half.due c.args.schema.now.shapes.now c.args.schema.now.place kind) in
+    let step = rw (c.if-branch.true, same) at (c.in_ok-next_element.ensures.goes_on.ok half.due c.args.schema.now.shapes.now c.args.schema.now.place kind) in
     let reads = rw (c.next_element.ensures.same, same) at c.in_ok-value.ensures.reads in
     rw (c.read_attribute_value.ensures.same, c.next_element.ensures.same, same)
     (list_falls w max laws attribute_value outer (site_of c.in-Some.inner) _ _ _ _ _ _ inside.0 half step reads)

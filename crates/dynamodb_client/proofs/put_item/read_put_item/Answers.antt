@@ -16,7 +16,7 @@ read_struct-requires g c = record {
 
 pub returns-clause-reads : goal.returns-clause-reads
 returns-clause-reads g c =
-    structure_reads put_item_fields _ (site_of c.args.schema.now) (g.met.D.ShapeDeserializer.lawful _) (has_structure _ _ c.requires.place.members) _ _ _ _ refl c.in_ok-read_struct.ensures.consumes c.in_ok-read_struct.ensures.takes
+    structure_reads put_item_fields _ (site_of c.args.schema.now) (g.met.D.ShapeDeserializer.lawful _) (has_structure _ _ c.requires.place.members) _ _ _ _ refl c.in_ok-read_struct.ensures.reads.consumes c.in_ok-read_struct.ensures.reads.takes
 
 pub returns-in_err-read_struct-clause-reads : goal.returns-in_err-read_struct-clause-reads
 returns-in_err-read_struct-clause-reads g c =
@@ -25,4 +25,4 @@ returns-in_err-read_struct-clause-reads g c =
     let s = d.settings c.args.source.now in
     rw (p.1, p.2)
     (structure_fails put_item_fields (reader (d.wire s) (d.lifted s) (d.tells_without_limits s) (d.max_depth s)) (site_of c.args.schema.now) (g.met.D.ShapeDeserializer.lawful s) (has_structure _ _ c.requires.place.members)
-    _ _ _ _ c.in_err-read_struct.field-0.0 c.in_err-read_struct.ensures.consumes c.in_err-read_struct.ensures.fails)
+    _ _ _ _ c.in_err-read_struct.field-0.0 c.in_err-read_struct.ensures.reads.consumes c.in_err-read_struct.ensures.reads.fails)

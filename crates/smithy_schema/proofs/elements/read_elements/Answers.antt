@@ -21,8 +21,8 @@ returns-in_err-read_list-clause-read g c =
     let inner = site_of c.in-Some.element in
     rw (p.1, p.2)
     (not_read g.T.ReadScalar.kind g.T.ReadScalar.scalar r outer inner (g.met.D.ShapeDeserializer.lawful o) (g.met.D.ShapeDeserializer.lifted_lawful o) (g.met.D.ShapeDeserializer.above o) (sym c.in-Some.ensures)
-    c.read_list.new.consumer.items.items _ _ _ c.in_err-read_list.ensures.fails
-    (through_items g.T.ReadScalar.kind g.T.ReadScalar.scalar r outer inner (λ e. e.items.items) (λ e. site_of e.element) _ _ _ _ _ refl c.in-Ok.ensures.empty c.in_err-read_list.ensures.consumes))
+    c.read_list.new.consumer.items.items _ _ _ c.in_err-read_list.ensures.reads.fails
+    (through_items g.T.ReadScalar.kind g.T.ReadScalar.scalar r outer inner (λ e. e.items.items) (λ e. site_of e.element) _ _ _ _ _ refl c.in-Ok.ensures.empty c.in_err-read_list.ensures.reads.consumes))
 
 pub returns-clause-read : goal.returns-clause-read
 returns-clause-read g c =
@@ -32,4 +32,4 @@ returns-clause-read g c =
     let outer = site_of c.args.schema.now in
     let inner = site_of c.in-Some.element in
     all_read g.T.ReadScalar.kind g.T.ReadScalar.scalar r outer inner (g.met.D.ShapeDeserializer.lawful o) (sym c.in-Some.ensures) c.read_list.new.consumer.items.items _ _
-    (through_items g.T.ReadScalar.kind g.T.ReadScalar.scalar r outer inner (λ e. e.items.items) (λ e. site_of e.element) _ _ _ _ _ refl c.in-Ok.ensures.empty c.in_ok-read_list.ensures.consumes)
+    (through_items g.T.ReadScalar.kind g.T.ReadScalar.scalar r outer inner (λ e. e.items.items) (λ e. site_of e.element) _ _ _ _ _ refl c.in-Ok.ensures.empty c.in_ok-read_list.ensures.reads.consumes)

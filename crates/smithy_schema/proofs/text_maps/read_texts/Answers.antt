@@ -16,8 +16,8 @@ returns-in_err-read_map-clause-read g c =
     let inner = site_of c.in-Some.value in
     rw (p.1, p.2)
     (not_read r outer inner (g.met.D.ShapeDeserializer.lawful o) (g.met.D.ShapeDeserializer.lifted_lawful o) (g.met.D.ShapeDeserializer.above o) (sym c.in-Some.ensures)
-    (text_entries c.read_map.new.consumer.entries.entries) _ _ _ c.in_err-read_map.ensures.fails
-    (through_entries r outer inner (λ e. text_entries e.entries.entries) (λ e. site_of e.value) _ _ _ _ _ refl (ap text_entries c.new.ensures.empty) c.in_err-read_map.ensures.consumes))
+    (text_entries c.read_map.new.consumer.entries.entries) _ _ _ c.in_err-read_map.ensures.reads.fails
+    (through_entries r outer inner (λ e. text_entries e.entries.entries) (λ e. site_of e.value) _ _ _ _ _ refl (ap text_entries c.new.ensures.empty) c.in_err-read_map.ensures.reads.consumes))
 
 pub returns-clause-read : goal.returns-clause-read
 returns-clause-read g c =
@@ -27,4 +27,4 @@ returns-clause-read g c =
     let outer = site_of c.args.schema.now in
     let inner = site_of c.in-Some.value in
     all_read r outer inner (g.met.D.ShapeDeserializer.lawful o) (sym c.in-Some.ensures) (text_entries c.read_map.new.consumer.entries.entries) _ _
-    (through_entries r outer inner (λ e. text_entries e.entries.entries) (λ e. site_of e.value) _ _ _ _ _ refl (ap text_entries c.new.ensures.empty) c.in_ok-read_map.ensures.consumes)
+    (through_entries r outer inner (λ e. text_entries e.entries.entries) (λ e. site_of e.value) _ _ _ _ _ refl (ap text_entries c.new.ensures.empty) c.in_ok-read_map.ensures.reads.consumes)

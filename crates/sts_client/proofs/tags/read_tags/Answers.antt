@@ -19,7 +19,7 @@ returns-clause-reads g c =
     let outer = site_of c.args.schema.now in
     let inner = site_of c.in-Some.shape in
     let fresh : c.new.result.items ≡ [] = search rules in
-    let through = through_tags r outer inner (λ e. e.tags.items) (λ e. site_of e.shape) _ _ _ _ _ refl fresh c.in_ok-read_list.ensures.consumes in
+    let through = through_tags r outer inner (λ e. e.tags.items) (λ e. site_of e.shape) _ _ _ _ _ refl fresh c.in_ok-read_list.ensures.reads.consumes in
     record {
       ok = tags_read r outer inner c.requires.place (sym c.in-Some.ensures) (g.met.D.ShapeDeserializer.lawful s) c.read_list.new.consumer.tags.items _ _ _ through;
       refused = λ fault. absurd fault;
@@ -35,10 +35,10 @@ returns-in_err-read_list-clause-reads g c =
     let outer = site_of c.args.schema.now in
     let inner = site_of c.in-Some.shape in
     let fresh : c.new.result.items ≡ [] = search rules in
-    let through = through_tags r outer inner (λ e. e.tags.items) (λ e. site_of e.shape) _ _ _ _ _ refl fresh c.in_err-read_list.ensures.consumes in
+    let through = through_tags r outer inner (λ e. e.tags.items) (λ e. site_of e.shape) _ _ _ _ _ refl fresh c.in_err-read_list.ensures.reads.consumes in
     rw (p.1, p.2)
     (record {
       ok = tt;
       refused = λ fault due. tags_refused r outer inner c.requires.place (sym c.in-Some.ensures) (g.met.D.ShapeDeserializer.lawful s) c.read_list.new.consumer.tags.items _ _ _ through c.in_err-read_list.field-0.0 refl fault due;
-      fails = same_failure _ _ _ (tags_fail r outer inner c.requires.place (sym c.in-Some.ensures) c.read_list.new.consumer.tags.items _ _ _ through c.in_err-read_list.ensures.fails);
+      fails = same_failure _ _ _ (tags_fail r outer inner c.requires.place (sym c.in-Some.ensures) c.read_list.new.consumer.tags.items _ _ _ through c.in_err-read_list.ensures.reads.fails);
     })

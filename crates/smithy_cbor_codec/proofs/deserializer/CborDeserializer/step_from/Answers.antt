@@ -1,13 +1,14 @@
-use Rattle.std.proofs.Common.{arith, ap, ◌∙◌}
+use Rattle.std.proofs.Common.{◌≤◌, length, arith, ap, ◌∙◌, inr, refl, rules}
 use Rattle.std.proofs.lemmas.Grind.{common_steps}
 use Rattle.smithy_shapes.specs.Site.{site_of, kind_at}
 use Rattle.smithy_cbor_codec.specs.Cursor.{cursor_of, reading_settings_of}
-use Rattle.smithy_cbor_values.specs.Settings.{Settings}
+use Rattle.smithy_cbor_values.specs.Settings.{without_limits}
 use Rattle.smithy_cbor_values.specs.Standing.{mark_with}
 use Rattle.smithy_cbor_codec.specs.Private.MemberSteps.{StepsTo}
 use Rattle.smithy_cbor_codec.proofs.DeserializerLemmas.{goes_ahead, not_missing, stays_inside}
 use Rattle.smithy_cbor_codec.proofs.MemberStepLemmas.{steps_to, leaves_at, map_closes, cannot_step, members_shut}
 use Rattle.smithy_cbor_codec.proofs.PassedEntryLemmas.{value_place, end_place}
+use Rattle.smithy_wire.proofs.ContainerAnswers.{stepped, stuck}
 use Rattle.smithy_wire.specs.Walking.{cursor_of as walk_cursor, gone_on_to}
 use Rattle.smithy_cbor_codec.proofs.deserializer.CborDeserializer.step_from.Goals as goal
 
@@ -17,53 +18,76 @@ leave-requires-then-may_leave_at-clause-within c =
     let old = cursor_of c.args.self.now in
     (end_place (reading_settings_of c.args.self.now).enforce_strictness (kind_at (site_of c.args.schema.now)) old.input c.end_depth.result c.args.at (mark_with old.inner.mark.due) c.in-Ok-Some-End.end c.requires.within next).1
 
-pub returns-in-Ok-Some-Pair-clause-conduct : goal.returns-in-Ok-Some-Pair-clause-conduct
-returns-in-Ok-Some-Pair-clause-conduct c =
-    let next = rw (c.in-Ok-Some-Pair.field-0-is, c.in-Ok-Some-Pair.field-0-0-is) at c.in-Ok-Some-Pair.ensures in
+pub returns-then-ends_empty-clause-steps : goal.returns-then-ends_empty-clause-steps
+returns-then-ends_empty-clause-steps c =
+    let o = reading_settings_of c.args.self.now in
     let old = cursor_of c.args.self.now in
-    let place = value_place (reading_settings_of c.args.self.now).enforce_strictness (kind_at (site_of c.args.schema.now)) old.input c.end_depth.result c.args.at (mark_with old.inner.mark.due) _ c.in-Ok-Some-Pair.value (mark_with c.in-Ok-Some-Pair.due) next in
-    goes_ahead _ old (walk_cursor c.go_on.new.self) c.step_to-step.result c.in-Ok-Some-Pair.value c.requires.sound (ap (λ x. x.at) c.go_on.ensures.gone) (ap (λ x. x.input) c.go_on.ensures.gone) (omega (arith, c.requires.ahead, place.0)) place.1
+    let new = walk_cursor c.leave.new.self in
+    let site = site_of c.args.schema.now in
+    let ended = c.ends_empty.ensures.0 c.if-ends_empty.true in
+    let left = c.leave.ensures in
+    stepped _ _ _ site old new c.args.at _
+    (goes_ahead _ old new _ c.args.at c.requires.sound left.at left.input c.requires.ahead c.requires.within)
+    (leaves_at o old new c.args.at site c.requires.place c.args.at (inr (ended.0, (ended.1.1, refl), ended.1.0, ended.1.2)) left.input left.at left.outer left.due left.failed c.requires.sound)
 
-pub returns-in-Ok-Some-Pair-clause-ok : goal.returns-in-Ok-Some-Pair-clause-ok
-returns-in-Ok-Some-Pair-clause-ok c =
+pub returns-in-Ok-Some-Pair-clause-steps : goal.returns-in-Ok-Some-Pair-clause-steps
+returns-in-Ok-Some-Pair-clause-steps c =
     let next = rw (c.in-Ok-Some-Pair.field-0-is, c.in-Ok-Some-Pair.field-0-0-is) at c.in-Ok-Some-Pair.ensures in
     let o = reading_settings_of c.args.self.now in
     let old = cursor_of c.args.self.now in
-    let gone = c.go_on.ensures.gone ∙ ap (λ f. gone_on_to old c.in-Ok-Some-Pair.value f) c.frame.ensures in
-    let leads : StepsTo c.step_to-step.result (site_of c.args.schema.now) c.as_str.result.now = c.step_to-step.ensures in
-    steps_to o old (walk_cursor c.go_on.new.self) c.args.at (site_of c.args.schema.now) c.requires.place
-    c.in-Ok-Some-Pair.value c.as_str.result.now c.in-Ok-Some-Pair.due c.step_to-step.result c.end_depth.result c.end_depth.ensures c.requires.inside c.requires.sound gone (rw c.as_str.ensures.value next) leads
+    let new = walk_cursor c.go_on.new.self in
+    let site = site_of c.args.schema.now in
+    let value = c.in-Ok-Some-Pair.value in
+    let place = value_place o.enforce_strictness (kind_at site) old.input c.end_depth.result c.args.at (mark_with old.inner.mark.due) _ value (mark_with c.in-Ok-Some-Pair.due) next in
+    let gone = c.go_on.ensures.gone ∙ ap (λ f. gone_on_to old value f) c.frame.ensures in
+    let leads : StepsTo c.step_to-step.result site c.as_str.result.now = c.step_to-step.ensures in
+    stepped _ _ _ site old new c.args.at c.step_to-step.result
+    (goes_ahead _ old new c.step_to-step.result value c.requires.sound (ap (λ x. x.at) c.go_on.ensures.gone) (ap (λ x. x.input) c.go_on.ensures.gone) (omega (arith, c.requires.ahead, place.0)) place.1)
+    (steps_to o old new c.args.at site c.requires.place value c.as_str.result.now c.in-Ok-Some-Pair.due c.step_to-step.result c.end_depth.result c.end_depth.ensures c.requires.inside c.requires.sound gone (rw c.as_str.ensures.value next) leads)
 
-pub returns-then-may_leave_at-clause-conduct : goal.returns-then-may_leave_at-clause-conduct
-returns-then-may_leave_at-clause-conduct c =
-    let next = rw (c.in-Ok-Some-End.field-0-is, c.in-Ok-Some-End.field-0-0-is) at c.in-Ok-Some-End.ensures in
-    let old = cursor_of c.args.self.now in
-    let place = end_place (reading_settings_of c.args.self.now).enforce_strictness (kind_at (site_of c.args.schema.now)) old.input c.end_depth.result c.args.at (mark_with old.inner.mark.due) c.in-Ok-Some-End.end c.requires.within next in
-    goes_ahead _ old (walk_cursor c.leave-then-may_leave_at.new.self) _ c.in-Ok-Some-End.end c.requires.sound c.leave-then-may_leave_at.ensures.at c.leave-then-may_leave_at.ensures.input (omega (arith, c.requires.ahead, place.0)) place.1
-
-pub returns-then-may_leave_at-clause-ok : goal.returns-then-may_leave_at-clause-ok
-returns-then-may_leave_at-clause-ok c =
+pub returns-then-may_leave_at-clause-steps : goal.returns-then-may_leave_at-clause-steps
+returns-then-may_leave_at-clause-steps c =
     let next = rw (c.in-Ok-Some-End.field-0-is, c.in-Ok-Some-End.field-0-0-is) at c.in-Ok-Some-End.ensures in
     let o = reading_settings_of c.args.self.now in
     let old = cursor_of c.args.self.now in
     let new = walk_cursor c.leave-then-may_leave_at.new.self in
-    leaves_at o old new c.args.at (site_of c.args.schema.now) c.requires.place c.in-Ok-Some-End.end
-    (map_closes o old new c.args.at (site_of c.args.schema.now) c.requires.place c.in-Ok-Some-End.end c.end_depth.result c.end_depth.ensures next (c.may_leave_at.ensures.0 c.if-may_leave_at.true))
-    c.leave-then-may_leave_at.ensures.input c.leave-then-may_leave_at.ensures.at c.leave-then-may_leave_at.ensures.outer c.leave-then-may_leave_at.ensures.due c.leave-then-may_leave_at.ensures.failed c.requires.sound
+    let site = site_of c.args.schema.now in
+    let end = c.in-Ok-Some-End.end in
+    let left = c.leave-then-may_leave_at.ensures in
+    let place = end_place o.enforce_strictness (kind_at site) old.input c.end_depth.result c.args.at (mark_with old.inner.mark.due) end c.requires.within next in
+    stepped _ _ _ site old new c.args.at _
+    (goes_ahead _ old new _ end c.requires.sound left.at left.input (omega (arith, c.requires.ahead, place.0)) place.1)
+    (leaves_at o old new c.args.at site c.requires.place end
+    (map_closes o old new c.args.at site c.requires.place end c.end_depth.result c.end_depth.ensures next (c.may_leave_at.ensures.0 c.if-may_leave_at.true))
+    left.input left.at left.outer left.due left.failed c.requires.sound)
 
-pub returns-else-may_leave_at-clause-refused : goal.returns-else-may_leave_at-clause-refused
-returns-else-may_leave_at-clause-refused c = λ fault limits.
+pub returns-else-may_leave_at-clause-steps : goal.returns-else-may_leave_at-clause-steps
+returns-else-may_leave_at-clause-steps c =
     let next = rw (c.in-Ok-Some-End.field-0-is, c.in-Ok-Some-End.field-0-0-is) at c.in-Ok-Some-End.ensures in
-    let o : Settings = record (reading_settings_of c.args.self.now) { limits = limits } in
-    members_shut o (cursor_of c.args.self.now) (walk_cursor c.refuse.new.self) c.args.at (site_of c.args.schema.now) c.requires.place c.in-Ok-Some-End.end c.end_depth.result c.end_depth.ensures next
-    (stays_inside c.may_leave_at.result _ c.may_leave_at.ensures c.if-may_leave_at.false) (not_missing c.ends_empty.result _ _ c.ends_empty.ensures c.if-ends_empty.false)
+    let within : c.args.self.now.walk.position ≤ length c.args.self.now.walk.input.now = search rules in
+    let o = reading_settings_of c.args.self.now in
+    let old = cursor_of c.args.self.now in
+    let new = walk_cursor c.refuse.new.self in
+    let site = site_of c.args.schema.now in
+    let end = c.in-Ok-Some-End.end in
+    let inside = stays_inside c.may_leave_at.result _ c.may_leave_at.ensures c.if-may_leave_at.false in
+    let full = not_missing c.ends_empty.result _ _ c.ends_empty.ensures c.if-ends_empty.false in
+    stuck _ _ _ site old new c.args.at _ c.refuse.ensures.error c.refuse.ensures.stays within c.requires.sound
+    (members_shut o old new c.args.at site c.requires.place end c.end_depth.result c.end_depth.ensures next inside full)
+    (members_shut (without_limits o) old new c.args.at site c.requires.place end c.end_depth.result c.end_depth.ensures next inside full)
 
-pub returns-in-Ok-None-clause-refused : goal.returns-in-Ok-None-clause-refused
-returns-in-Ok-None-clause-refused c = λ fault limits.
+pub returns-in-Ok-None-clause-steps : goal.returns-in-Ok-None-clause-steps
+returns-in-Ok-None-clause-steps c =
     let nothing = rw c.in-Ok-None.field-0-is at c.in-Ok-None.ensures in
-    let o : Settings = record (reading_settings_of c.args.self.now) { limits = limits } in
-    cannot_step o (cursor_of c.args.self.now) (walk_cursor c.refuse-in-Ok-None.new.self) c.args.at (site_of c.args.schema.now) c.requires.place c.end_depth.result c.end_depth.ensures nothing
-    (not_missing c.ends_empty.result _ _ c.ends_empty.ensures c.if-ends_empty.false)
+    let within : c.args.self.now.walk.position ≤ length c.args.self.now.walk.input.now = search rules in
+    let o = reading_settings_of c.args.self.now in
+    let old = cursor_of c.args.self.now in
+    let new = walk_cursor c.refuse-in-Ok-None.new.self in
+    let site = site_of c.args.schema.now in
+    let full = not_missing c.ends_empty.result _ _ c.ends_empty.ensures c.if-ends_empty.false in
+    stuck _ _ _ site old new c.args.at _ c.refuse-in-Ok-None.ensures.error c.refuse-in-Ok-None.ensures.stays within c.requires.sound
+    (cannot_step o old new c.args.at site c.requires.place c.end_depth.result c.end_depth.ensures nothing full)
+    (cannot_step (without_limits o) old new c.args.at site c.requires.place c.end_depth.result c.end_depth.ensures nothing full)
 
 pub leave-requires-clause-within : goal.leave-requires-clause-within
 leave-requires-clause-within c = grind (arith, common_steps)

@@ -2,19 +2,16 @@ use Rattle.std.proofs.Common.{◌≡◌, ◌≤◌, length, true, false, rules, 
 use Rattle.std.proofs.lemmas.Grind.{common_steps}
 use Rattle.smithy_schema.specs.declared.error.SerdeError.TheVariants.{InvalidInput}
 use Rattle.smithy_cbor_codec.specs.Cursor.{cursor_of, reading_settings_of}
-use Rattle.smithy_cbor_values.specs.Settings.{kept, lifted, without_limits}
+use Rattle.smithy_cbor_values.specs.Settings.{without_limits}
 use Rattle.smithy_wire.proofs.ScalarReads.{conducts}
 use Rattle.smithy_wire.proofs.ContainerAnswers.{steps_undue, steps_behind, steps_past}
 use Rattle.smithy_cbor_codec.proofs.DeserializerLemmas.{skip_place, skips_not, skips_same, skips_here}
-use Rattle.smithy_cbor_codec.proofs.MemberStepLemmas.{invalid_refused}
 use Rattle.smithy_cbor_codec.proofs.deserializer.CborDeserializerShapeDeserializer.next_member.Goals as goal
 
 pub returns-then-not-self-clause-goes_on : goal.returns-then-not-self-clause-goes_on
 returns-then-not-self-clause-goes_on c =
     let undue : c.args.self.now.walk.due ≡ false = search rules in
-    let from = c.step_from.ensures in
-    steps_undue _ _ _ _ _ (cursor_of c.args.self.now) _ _ undue from.conduct from.narrow from.ok (λ refused. from.refused refused kept)
-    (λ strict invalid. from.refused (invalid_refused c.step_from.result invalid) lifted) (λ deep. absurd (from.shallow deep)) (λ deep. absurd (from.shallow deep))
+    steps_undue _ _ _ _ _ (cursor_of c.args.self.now) _ _ undue c.step_from.ensures.steps (λ deep. absurd (c.step_from.ensures.shallow deep))
 
 pub returns-in-Ok-Some-clause-goes_on : goal.returns-in-Ok-Some-clause-goes_on
 returns-in-Ok-Some-clause-goes_on c =
@@ -26,8 +23,7 @@ returns-in-Ok-Some-clause-goes_on c =
     let skipped = rw c.in-Ok-Some.field-0-is at c.in-Ok-Some.ensures in
     let from = c.step_from-in-Ok-Some.ensures in
     steps_behind _ _ _ _ _ old _ _ end due (skips_here o old held c.end_depth.ensures end skipped) (λ e. skips_same o old held c.end_depth.ensures end e skipped)
-    (λ e. skips_same (without_limits o) old held c.end_depth.ensures end e skipped) from.conduct from.narrow from.ok (λ refused. from.refused refused kept)
-    (λ strict invalid. from.refused (invalid_refused c.step_from-in-Ok-Some.result invalid) lifted) (λ deep. absurd (from.shallow deep)) (λ deep. absurd (from.shallow deep))
+    (λ e. skips_same (without_limits o) old held c.end_depth.ensures end e skipped) from.steps (λ deep. absurd (from.shallow deep)) (λ deep. absurd (from.shallow deep))
 
 -- nothing that can be skipped was left unread
 pub returns-in-Ok-None-clause-goes_on : goal.returns-in-Ok-None-clause-goes_on

@@ -5,7 +5,7 @@ use Rattle.smithy_json_values.specs.Settings.{without_limits}
 use Rattle.smithy_json_values.specs.Private.TokenPlaces.{names_ahead}
 use Rattle.smithy_json_codec.proofs.DeserializerLemmas.{entry_steps, map_stuck, key_stuck}
 use Rattle.smithy_json_codec.proofs.KeyLemmas.{failed_before, value_is_due, wants_memory, finds_none, finds_key, finds_end}
-use Rattle.smithy_json_codec.proofs.MapEnds.{map_left}
+use Rattle.smithy_json_codec.proofs.ContainerEnds.{map_left}
 use Rattle.smithy_wire.specs.Walking.{cursor_of as walk_cursor, gone_on_to}
 use Rattle.smithy_json_codec.proofs.deserializer.JsonDeserializer.next_key_as.Goals as goal
 

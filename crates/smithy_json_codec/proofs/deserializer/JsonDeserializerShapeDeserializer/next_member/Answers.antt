@@ -1,20 +1,16 @@
-use Rattle.std.proofs.Common.{◌≡◌, true, false, refl, arith, rules}
+use Rattle.std.proofs.Common.{◌≡◌, false, refl, arith, rules}
 use Rattle.std.proofs.lemmas.Grind.{common_steps}
 use Rattle.smithy_json_codec.specs.Cursor.{cursor_of}
-use Rattle.smithy_wire.proofs.ContainerAnswers.{steps_undue, steps_past}
+use Rattle.smithy_wire.proofs.ContainerAnswers.{steps_undue, steps_always}
 use Rattle.smithy_json_codec.proofs.deserializer.JsonDeserializerShapeDeserializer.next_member.Goals as goal
 
 pub returns-then-self-2-clause-goes_on : goal.returns-then-self-2-clause-goes_on
-returns-then-self-2-clause-goes_on c =
-    let due : c.args.self.now.walk.due ≡ true = search rules in
-    let past = c.step_past_unread.ensures in
-    steps_past _ _ _ _ _ (cursor_of c.args.self.now) _ _ due past.conduct past.narrow past.ok past.refused (λ strict. past.none_without_limits) past.deep (λ deep. refl)
+returns-then-self-2-clause-goes_on c = steps_always _ _ _ _ _ _ _ _ c.step_past_unread.ensures.goes_on
 
 pub returns-clause-goes_on : goal.returns-clause-goes_on
 returns-clause-goes_on c =
     let undue : c.args.self.now.walk.due ≡ false = search rules in
-    let from = c.step_from.ensures in
-    steps_undue _ _ _ _ _ (cursor_of c.args.self.now) _ _ undue from.conduct from.narrow from.ok from.refused (λ strict. from.none_without_limits) from.deep (λ deep. refl)
+    steps_undue _ _ _ _ _ (cursor_of c.args.self.now) _ _ undue c.step_from.ensures.steps (λ deep. refl)
 
 pub returns-clause-too_deep : goal.returns-clause-too_deep
 returns-clause-too_deep c = λ deep. c.step_from.ensures.too_deep deep

@@ -6,11 +6,11 @@ use Rattle.smithy_schema.specs.Consuming.{reader, unopened, entered, refused, st
 use Rattle.smithy_schema.proofs.ConsumingLemmas.{is_error, was_sound, was_due, opening_refused, entry_refused, began, went_on, onto_by, taken_whole, less_left, none_due}
 use Rattle.smithy_schema.proofs.read.ShapeDeserializer.read_list.Goals as goal
 
-pub returns-in_err-open_list-clause-consumes : goal.returns-in_err-open_list-clause-consumes
-returns-in_err-open_list-clause-consumes g c =
+pub returns-in_err-open_list-clause-reads : goal.returns-in_err-open_list-clause-reads
+returns-in_err-open_list-clause-reads g c =
     let p = err_from_is_err_and c.from_residual.result c.from_residual.ensures.1 in
     let e = c.in_err-open_list.ensures.opens in
-    rw (p.1, p.2, e.conduct.stays) (unopened (opening_refused _ _ _ _ _ _ e))
+    rw (p.1, p.2, e.conduct.stays) (record { consumes = unopened (opening_refused _ _ _ _ _ _ e); takes = tt; fails = refl })
 
 pub loop-consumer-init : goal.loop-consumer-init
 loop-consumer-init g c =
@@ -23,33 +23,41 @@ next_element-requires g c = record { within = c.loop-consumer.invariant.within �
 pub returns-in_err-next_element-clause-same : goal.returns-in_err-next_element-clause-same
 returns-in_err-next_element-clause-same g c = c.next_element.ensures.same ∙ c.loop-consumer.invariant.same
 
-pub returns-in_err-next_element-clause-consumes : goal.returns-in_err-next_element-clause-consumes
-returns-in_err-next_element-clause-consumes g c =
+pub returns-in_err-next_element-clause-reads : goal.returns-in_err-next_element-clause-reads
+returns-in_err-next_element-clause-reads g c =
     let p = err_from_is_err_and c.from_residual-in_err-next_element.result c.from_residual-in_err-next_element.ensures.1 in
     let inside = c.loop-consumer.invariant in
-    let e = c.in_err-next_element.ensures in
+    let e = c.in_err-next_element.ensures.goes_on in
     let place = c.requires.place in
     rw (p.1, p.2, e.conduct.stays)
-    (entered (was_sound _ _ c.in_ok-open_list.ensures.opens.conduct.failed) (was_due _ c.in_ok-open_list.ensures.opens.undue) c.in_ok-open_list.ensures.opens.ok (inside.along _ _ _ (refused
-    (rw inside.same at (entry_refused _ (reader (g.Self.ShapeDeserializer.wire (g.Self.ShapeDeserializer.settings c.loop-consumer.self)) (g.Self.ShapeDeserializer.lifted (g.Self.ShapeDeserializer.settings c.loop-consumer.self)) (g.Self.ShapeDeserializer.tells_without_limits (g.Self.ShapeDeserializer.settings c.loop-consumer.self)) (g.Self.ShapeDeserializer.max_depth (g.Self.ShapeDeserializer.settings c.loop-consumer.self))) (site_of c.args.schema.now) _ _ _ e.conduct e.narrow e.shallow e.unread (λ h due. e.refused h due _ _ place) (λ strict h due. e.none_without_limits strict h due _ _ place)), λ is. e.memory (is_error _ _ NoMemory is)))))
+    (record {
+      consumes = entered (was_sound _ _ c.in_ok-open_list.ensures.opens.conduct.failed) (was_due _ c.in_ok-open_list.ensures.opens.undue) c.in_ok-open_list.ensures.opens.ok (inside.along _ _ _ (refused
+          (rw inside.same at (entry_refused _ (reader (g.Self.ShapeDeserializer.wire (g.Self.ShapeDeserializer.settings c.loop-consumer.self)) (g.Self.ShapeDeserializer.lifted (g.Self.ShapeDeserializer.settings c.loop-consumer.self)) (g.Self.ShapeDeserializer.tells_without_limits (g.Self.ShapeDeserializer.settings c.loop-consumer.self)) (g.Self.ShapeDeserializer.max_depth (g.Self.ShapeDeserializer.settings c.loop-consumer.self))) (site_of c.args.schema.now) _ _ _ e.conduct e.narrow e.shallow e.unread (λ h due. e.refused h due _ _ place) (λ strict h due. e.none_without_limits strict h due _ _ place)), λ is. e.memory (is_error _ _ NoMemory is))));
+      takes = tt;
+      fails = refl;
+    })
 
 pub returns-in-Err-clause-same : goal.returns-in-Err-clause-same
 returns-in-Err-clause-same g c = c.fail.ensures.same ∙ c.element.ensures.same ∙ c.next_element.ensures.same ∙ c.loop-consumer.invariant.same
 
 -- the consumer refused
-pub returns-in-Err-clause-consumes : goal.returns-in-Err-clause-consumes
-returns-in-Err-clause-consumes g c =
+pub returns-in-Err-clause-reads : goal.returns-in-Err-clause-reads
+returns-in-Err-clause-reads g c =
     let inside = c.loop-consumer.invariant in
-    let next = c.in_ok-next_element.ensures in
+    let next = c.in_ok-next_element.ensures.goes_on in
     let due = none_due (g.Self.ShapeDeserializer.state c.loop-consumer.self).due (λ due. next.unread due) in
     let steps = rw (c.if-branch.true, inside.same) at (next.ok due c.args.schema.now.shapes.now c.args.schema.now.place c.requires.place) in
     rw c.fail.ensures.fails
-    (entered (was_sound _ _ c.in_ok-open_list.ensures.opens.conduct.failed) (was_due _ c.in_ok-open_list.ensures.opens.undue) c.in_ok-open_list.ensures.opens.ok (inside.along _ _ _ (stopped tt (record { taken = due; steps = steps; ahead = next.conduct.ahead }) (rw (c.next_element.ensures.same, inside.same) at c.in-Err.ensures.called))))
+    (record {
+      consumes = entered (was_sound _ _ c.in_ok-open_list.ensures.opens.conduct.failed) (was_due _ c.in_ok-open_list.ensures.opens.undue) c.in_ok-open_list.ensures.opens.ok (inside.along _ _ _ (stopped tt (record { taken = due; steps = steps; ahead = next.conduct.ahead }) (rw (c.next_element.ensures.same, inside.same) at c.in-Err.ensures.called)));
+      takes = tt;
+      fails = refl;
+    })
 
 pub loop-consumer-smaller : goal.loop-consumer-smaller
 loop-consumer-smaller g c =
     let inside = c.loop-consumer.invariant in
-    let next = c.in_ok-next_element.ensures in
+    let next = c.in_ok-next_element.ensures.goes_on in
     let due = none_due (g.Self.ShapeDeserializer.state c.loop-consumer.self).due (λ due. next.unread due) in
     let steps = rw (c.if-branch.true, inside.same) at (next.ok due c.args.schema.now.shapes.now c.args.schema.now.place c.requires.place) in
     less_left _ (g.met.Self.ShapeDeserializer.lawful _) _ _ _ _ _ _ due steps c.in_default.ensures.rests
@@ -58,7 +66,7 @@ loop-consumer-smaller g c =
 pub loop-consumer-preserved : goal.loop-consumer-preserved
 loop-consumer-preserved g c =
     let inside = c.loop-consumer.invariant in
-    let next = c.in_ok-next_element.ensures in
+    let next = c.in_ok-next_element.ensures.goes_on in
     let due = none_due (g.Self.ShapeDeserializer.state c.loop-consumer.self).due (λ due. next.unread due) in
     let steps = rw (c.if-branch.true, inside.same) at (next.ok due c.args.schema.now.shapes.now c.args.schema.now.place c.requires.place) in
     went_on _ _ _ _ _ _ _ _ _ _ _ _ tt inside (c.element.ensures.same ∙ c.next_element.ensures.same) (record { taken = due; steps = steps; ahead = next.conduct.ahead })
@@ -68,18 +76,14 @@ pub returns-clause-same : goal.returns-clause-same
 returns-clause-same g c = c.next_element.ensures.same ∙ c.loop-consumer.invariant.same
 
 -- the list ended
-pub returns-clause-consumes : goal.returns-clause-consumes
-returns-clause-consumes g c =
+pub returns-clause-reads : goal.returns-clause-reads
+returns-clause-reads g c =
     let inside = c.loop-consumer.invariant in
-    let next = c.in_ok-next_element.ensures in
+    let next = c.in_ok-next_element.ensures.goes_on in
     let due = none_due (g.Self.ShapeDeserializer.state c.loop-consumer.self).due (λ due. next.unread due) in
     let leaves = rw (c.if-branch.false, inside.same) at (next.ok due c.args.schema.now.shapes.now c.args.schema.now.place c.requires.place) in
-    entered (was_sound _ _ c.in_ok-open_list.ensures.opens.conduct.failed) (was_due _ c.in_ok-open_list.ensures.opens.undue) c.in_ok-open_list.ensures.opens.ok (inside.along _ _ _ (ended (record { taken = due; leaves = leaves; ahead = next.conduct.ahead })))
-
-pub returns-clause-takes : goal.returns-clause-takes
-returns-clause-takes g c =
-    let inside = c.loop-consumer.invariant in
-    let next = c.in_ok-next_element.ensures in
-    let due = none_due (g.Self.ShapeDeserializer.state c.loop-consumer.self).due (λ due. next.unread due) in
-    let leaves = rw (c.if-branch.false, inside.same) at (next.ok due c.args.schema.now.shapes.now c.args.schema.now.place c.requires.place) in
-    taken_whole _ (g.met.Self.ShapeDeserializer.lawful _) _ _ _ _ _ _ _ _ _ _ _ _ _ _ _ c.in_ok-open_list.ensures.opens.ok inside refl refl leaves next.conduct.ahead next.conduct.within
+    record {
+      consumes = entered (was_sound _ _ c.in_ok-open_list.ensures.opens.conduct.failed) (was_due _ c.in_ok-open_list.ensures.opens.undue) c.in_ok-open_list.ensures.opens.ok (inside.along _ _ _ (ended (record { taken = due; leaves = leaves; ahead = next.conduct.ahead })));
+      takes = taken_whole _ (g.met.Self.ShapeDeserializer.lawful _) _ _ _ _ _ _ _ _ _ _ _ _ _ _ _ c.in_ok-open_list.ensures.opens.ok inside refl refl leaves next.conduct.ahead next.conduct.within;
+      fails = tt;
+    }

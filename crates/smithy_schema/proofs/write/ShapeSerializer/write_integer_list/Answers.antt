@@ -12,12 +12,18 @@ use Rattle.smithy_shapes.proofs.Inner.{inner_element}
 use Rattle.smithy_schema.proofs.WrittenLists as lists
 use Rattle.smithy_schema.proofs.write.ShapeSerializer.write_integer_list.Goals as goal
 
-pub returns-in_err-begin_list-clause-refused : goal.returns-in_err-begin_list-clause-refused
-returns-in_err-begin_list-clause-refused g c =
+pub returns-in_err-begin_list-clause-writes : goal.returns-in_err-begin_list-clause-writes
+returns-in_err-begin_list-clause-writes g c =
     let p = err_from_is_err_and c.from_residual.result c.from_residual.ensures.1 in
     let values = map (λ n. scalar_value (whole n)) c.args.values.now in
-    rw (p.1, p.2) (λ fault. lists.list_refused g.Self.ShapeSerializer.after (site_of c.args.schema.now) values _ (g.Self.ShapeSerializer.state c.args.self.now) _
-    (lists.told (λ n. scalar_value (whole n)) c.args.values.now) (c.in_err-begin_list.ensures.refused fault))
+    let e = c.in_err-begin_list.ensures in
+    rw (p.1, p.2) (record {
+      failed = e.failed;
+      broken = e.broken;
+      ok = tt;
+      refused = λ fault. lists.list_refused g.Self.ShapeSerializer.after (site_of c.args.schema.now) values _ (g.Self.ShapeSerializer.state c.args.self.now) _
+          (lists.told (λ n. scalar_value (whole n)) c.args.values.now) (e.refused fault);
+    })
 
 pub loop-value-init : goal.loop-value-init
 loop-value-init g c =
@@ -29,22 +35,23 @@ loop-value-init g c =
           (lists.told (λ n. scalar_value (whole n)) c.args.values.now) c.in_ok-begin_list.ensures.ok;
     }
 
-pub returns-in_err-write_integer-clause-failed : goal.returns-in_err-write_integer-clause-failed
-returns-in_err-write_integer-clause-failed g c =
-    let p = err_from_is_err_and c.from_residual-in_err-write_integer.result c.from_residual-in_err-write_integer.ensures.1 in
-    rw (p.1, p.2) (failed_neither _ _ _ c.loop-value.invariant.before c.loop-value.invariant.failed c.in_err-write_integer.ensures.failed)
-
 -- a number refused
-pub returns-in_err-write_integer-clause-refused : goal.returns-in_err-write_integer-clause-refused
-returns-in_err-write_integer-clause-refused g c =
+pub returns-in_err-write_integer-clause-writes : goal.returns-in_err-write_integer-clause-writes
+returns-in_err-write_integer-clause-writes g c =
     let p = err_from_is_err_and c.from_residual-in_err-write_integer.result c.from_residual-in_err-write_integer.ensures.1 in
     let number : to_z w32 (of_z w32 (get_or c.args.values.now c.loop-value.value-index (pos 0))) ≡ get_or c.args.values.now c.loop-value.value-index (pos 0) = search rules in
     let next = lists.next_number (λ n. scalar_value (whole n)) c.args.values.now c.loop-value.value-index (pos 0) c.loop-value-test.true in
     let outer = site_of c.args.schema.now in
     let site = lists.element_site_is outer (site_of c.in-Some.member) (site_of c.nameless-element.result) (inner_element outer _ c.requires.place c.in-Some.ensures) c.nameless-element.ensures in
-    rw (p.1, p.2) (λ fault. c.loop-value.invariant.rest
-    ∙ lists.element_refused g.Self.ShapeSerializer.after outer _ _ _ (g.Self.ShapeSerializer.state c.loop-value.self) _ next
-    (call_refused g.Self.ShapeSerializer.after _ [] _ _ (rw (site, number) at (c.in_err-write_integer.ensures.refused fault))))
+    let e = c.in_err-write_integer.ensures in
+    rw (p.1, p.2) (record {
+      failed = failed_neither _ _ _ c.loop-value.invariant.before c.loop-value.invariant.failed e.failed;
+      broken = e.broken;
+      ok = tt;
+      refused = λ fault. c.loop-value.invariant.rest
+          ∙ lists.element_refused g.Self.ShapeSerializer.after outer _ _ _ (g.Self.ShapeSerializer.state c.loop-value.self) _ next
+          (call_refused g.Self.ShapeSerializer.after _ [] _ _ (rw (site, number) at (e.refused fault)));
+    })
 
 pub loop-value-preserved : goal.loop-value-preserved
 loop-value-preserved g c =
@@ -60,19 +67,18 @@ loop-value-preserved g c =
           (call_made g.Self.ShapeSerializer.after _ [] _ _ (rw (site, number) at c.in_ok-write_integer.ensures.ok));
     }
 
-pub returns-clause-failed : goal.returns-clause-failed
-returns-clause-failed g c = failed_neither _ _ _ c.loop-value.invariant.before c.loop-value.invariant.failed c.end_list.ensures.failed
-
 -- the last call ends the list
-pub returns-clause-ok : goal.returns-clause-ok
-returns-clause-ok g c =
+pub returns-clause-writes : goal.returns-clause-writes
+returns-clause-writes g c =
     let over = drop_all c.loop-value.value-index c.args.values.now c.loop-value-test.false in
-    ended_ok g.Self.ShapeSerializer.after end_list _ (g.Self.ShapeSerializer.state c.loop-value.self) _ c.end_list.result (rw over at c.loop-value.invariant.rest) c.end_list.ensures.ok
-
-pub returns-clause-refused : goal.returns-clause-refused
-returns-clause-refused g c =
-    let over = drop_all c.loop-value.value-index c.args.values.now c.loop-value-test.false in
-    ended_refused g.Self.ShapeSerializer.after end_list _ (g.Self.ShapeSerializer.state c.loop-value.self) c.end_list.result (rw over at c.loop-value.invariant.rest) c.end_list.ensures.refused
+    let rest = rw over at c.loop-value.invariant.rest in
+    let ended = c.end_list.ensures in
+    record {
+      failed = failed_neither _ _ _ c.loop-value.invariant.before c.loop-value.invariant.failed ended.failed;
+      broken = ended.broken;
+      ok = ended_ok g.Self.ShapeSerializer.after end_list _ (g.Self.ShapeSerializer.state c.loop-value.self) _ c.end_list.result rest ended.ok;
+      refused = ended_refused g.Self.ShapeSerializer.after end_list _ (g.Self.ShapeSerializer.state c.loop-value.self) c.end_list.result rest ended.refused;
+    }
 
 pub returns-clause-nests : goal.returns-clause-nests
 returns-clause-nests g c =

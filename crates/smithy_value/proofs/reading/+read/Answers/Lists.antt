@@ -45,7 +45,7 @@ read_list-returns-in_err-next_element-clause-reads g t c =
     let outer = site_of c.args.schema.now in
     let half = c.loop-elements.invariant.half in
     let same = c.loop-elements.invariant.same in
-    let told = c.in_err-next_element.ensures in
+    let told = c.in_err-next_element.ensures.goes_on in
     let p = err_from_is_err_and c.from_residual-in_err-next_element.result c.from_residual-in_err-next_element.ensures.1 in
     rw (p.1, p.2)
     (goes_no_further _ _ _ _ laws _ outer _ _ _ _ _ _ half told.conduct told.narrow (λ is. absurd (told.shallow is)) (λ is. absurd (told.shallow is))
@@ -61,10 +61,10 @@ read_list-returns-in_err-read_null-clause-reads g t c =
     let outer = site_of c.args.schema.now in
     let half = c.loop-elements.invariant.half in
     let same = c.loop-elements.invariant.same in
-    let step = rw (c.if-branch.true, same) at (c.in_ok-next_element.ensures.ok half.kept.due c.args.schema.now.shapes.now c.args.schema.now.place c.requires.place) in
+    let step = rw (c.if-branch.true, same) at (c.in_ok-next_element.ensures.goes_on.ok half.kept.due c.args.schema.now.shapes.now c.args.schema.now.place c.requires.place) in
     let place = element_place c.args.schema.now c.in-Some.element c.requires.place c.in-Some.ensures in
     let begins = sym c.is_null.ensures ∙ c.if-is_null.true in
-    let told = c.in_err-read_null.ensures in
+    let told = c.in_err-read_null.ensures.reads in
     let p = err_from_is_err_and c.from_residual-in_err-read_null.result c.from_residual-in_err-read_null.ensures.1 in
     rw (p.1, p.2)
     (null_fails _ _ _ _ laws _ outer _ _ _ _ _ _ _ c.requires.place place.1 (c.is_sparse-sparse.ensures.0 c.if-sparse.true) half step (rw (c.next_element.ensures.same, same) at begins) told.conduct told.narrow told.shallow (rw (c.next_element.ensures.same, same) at told.refused) (rw (c.next_element.ensures.same, same) at told.none_without_limits))
@@ -78,10 +78,10 @@ read_list-returns-in_err-push_element-clause-reads g t c =
     let outer = site_of c.args.schema.now in
     let half = c.loop-elements.invariant.half in
     let same = c.loop-elements.invariant.same in
-    let step = rw (c.if-branch.true, same) at (c.in_ok-next_element.ensures.ok half.kept.due c.args.schema.now.shapes.now c.args.schema.now.place c.requires.place) in
+    let step = rw (c.if-branch.true, same) at (c.in_ok-next_element.ensures.goes_on.ok half.kept.due c.args.schema.now.shapes.now c.args.schema.now.place c.requires.place) in
     let begins = sym c.is_null.ensures ∙ c.if-is_null.true in
-    let nulls = rw (c.next_element.ensures.same, same) at (c.in_ok-read_null.ensures.ok begins) in
-    let passes = c.in_ok-read_null.ensures.passes begins in
+    let nulls = rw (c.next_element.ensures.same, same) at (c.in_ok-read_null.ensures.reads.ok begins) in
+    let passes = c.in_ok-read_null.ensures.reads.passes begins in
     let p = err_from_is_err_and c.from_residual-in_err-push_element.result c.from_residual-in_err-push_element.ensures.1 in
     rw (p.1, p.2)
     (memory_fails _ _ _ _ _ outer _ _ _ (null_passed _ _ _ _ laws outer _ _ _ _ _ (c.is_sparse-sparse.ensures.0 c.if-sparse.true) half step nulls passes).reached c.in_err-push_element.ensures.err)
@@ -95,10 +95,10 @@ read_list-loop-elements-preserved-then-is_null g t c =
     let outer = site_of c.args.schema.now in
     let half = c.loop-elements.invariant.half in
     let same = c.loop-elements.invariant.same in
-    let step = rw (c.if-branch.true, same) at (c.in_ok-next_element.ensures.ok half.kept.due c.args.schema.now.shapes.now c.args.schema.now.place c.requires.place) in
+    let step = rw (c.if-branch.true, same) at (c.in_ok-next_element.ensures.goes_on.ok half.kept.due c.args.schema.now.shapes.now c.args.schema.now.place c.requires.place) in
     let begins = sym c.is_null.ensures ∙ c.if-is_null.true in
-    let nulls = rw (c.next_element.ensures.same, same) at (c.in_ok-read_null.ensures.ok begins) in
-    let passes = c.in_ok-read_null.ensures.passes begins in
+    let nulls = rw (c.next_element.ensures.same, same) at (c.in_ok-read_null.ensures.reads.ok begins) in
+    let passes = c.in_ok-read_null.ensures.reads.passes begins in
     record {
       same = c.read_null.ensures.same ∙ c.next_element.ensures.same ∙ same;
       begun = c.in_ok-push_element.ensures.begun c.args.trees.now c.loop-elements.invariant.begun;
@@ -114,7 +114,7 @@ read_list-returns-in_err-item-clause-reads g t c =
     let outer = site_of c.args.schema.now in
     let half = c.loop-elements.invariant.half in
     let same = c.loop-elements.invariant.same in
-    let step = rw (c.if-branch.true, same) at (c.in_ok-next_element.ensures.ok half.kept.due c.args.schema.now.shapes.now c.args.schema.now.place c.requires.place) in
+    let step = rw (c.if-branch.true, same) at (c.in_ok-next_element.ensures.goes_on.ok half.kept.due c.args.schema.now.shapes.now c.args.schema.now.place c.requires.place) in
     let place = element_place c.args.schema.now c.in-Some.element c.requires.place c.in-Some.ensures in
     let no_null : IsNoNull (g.D.ShapeDeserializer.wire s0) (g.D.ShapeDeserializer.state c.next_element.new.self) (kind_of c.args.schema.now.shapes.now c.args.schema.now.place) = λ sparse. elim c.else-sparse.branch [
       | read_list-else-sparse-via-then-sparse+else-is_null w ↦ rw (c.next_element.ensures.same, same) at (sym w.is_null.ensures ∙ w.if-is_null.false)
@@ -133,7 +133,7 @@ read_list-returns-in_err-push_element-2-clause-reads g t c =
     let outer = site_of c.args.schema.now in
     let half = c.loop-elements.invariant.half in
     let same = c.loop-elements.invariant.same in
-    let step = rw (c.if-branch.true, same) at (c.in_ok-next_element.ensures.ok half.kept.due c.args.schema.now.shapes.now c.args.schema.now.place c.requires.place) in
+    let step = rw (c.if-branch.true, same) at (c.in_ok-next_element.ensures.goes_on.ok half.kept.due c.args.schema.now.shapes.now c.args.schema.now.place c.requires.place) in
     let reads = rw (c.next_element.ensures.same, same) at c.in_ok-item.ensures.reads in
     let p = err_from_is_err_and c.from_residual-in_err-push_element-2.result c.from_residual-in_err-push_element-2.ensures.1 in
     rw (p.1, p.2)
@@ -148,7 +148,7 @@ read_list-loop-elements-preserved g t c =
     let outer = site_of c.args.schema.now in
     let half = c.loop-elements.invariant.half in
     let same = c.loop-elements.invariant.same in
-    let step = rw (c.if-branch.true, same) at (c.in_ok-next_element.ensures.ok half.kept.due c.args.schema.now.shapes.now c.args.schema.now.place c.requires.place) in
+    let step = rw (c.if-branch.true, same) at (c.in_ok-next_element.ensures.goes_on.ok half.kept.due c.args.schema.now.shapes.now c.args.schema.now.place c.requires.place) in
     let place = element_place c.args.schema.now c.in-Some.element c.requires.place c.in-Some.ensures in
     let no_null : IsNoNull (g.D.ShapeDeserializer.wire s0) (g.D.ShapeDeserializer.state c.next_element.new.self) (kind_of c.args.schema.now.shapes.now c.args.schema.now.place) = λ sparse. elim c.else-sparse.branch [
       | read_list-else-sparse-via-then-sparse+else-is_null w ↦ rw (c.next_element.ensures.same, same) at (sym w.is_null.ensures ∙ w.if-is_null.false)
@@ -175,7 +175,7 @@ read_list-returns-clause-reads g t c =
     let outer = site_of c.args.schema.now in
     let half = c.loop-elements.invariant.half in
     let same = c.loop-elements.invariant.same in
-    let leaves = rw (c.if-branch.false, same) at (c.in_ok-next_element.ensures.ok half.kept.due c.args.schema.now.shapes.now c.args.schema.now.place c.requires.place) in
+    let leaves = rw (c.if-branch.false, same) at (c.in_ok-next_element.ensures.goes_on.ok half.kept.due c.args.schema.now.shapes.now c.args.schema.now.place c.requires.place) in
     ends_whole _ _ _ _ laws _ outer _ _ _ _ _ _ _ half leaves refl (made_shown _ _ _ _ _ _ c.list.result (c.list.ensures.ok c.args.trees.now c.loop-elements.invariant.begun)) c.list.ensures.err
 
 pub read_list-returns-clause-adds : goal.read_list-returns-clause-adds
@@ -187,10 +187,10 @@ read_list-loop-elements-smaller-then-is_null g t c =
     let s0 = g.D.ShapeDeserializer.settings c.args.source.now in
     let half = c.loop-elements.invariant.half in
     let same = c.loop-elements.invariant.same in
-    let step = rw (c.if-branch.true, same) at (c.in_ok-next_element.ensures.ok half.kept.due c.args.schema.now.shapes.now c.args.schema.now.place c.requires.place) in
+    let step = rw (c.if-branch.true, same) at (c.in_ok-next_element.ensures.goes_on.ok half.kept.due c.args.schema.now.shapes.now c.args.schema.now.place c.requires.place) in
     let begins = sym c.is_null.ensures ∙ c.if-is_null.true in
-    let nulls = rw (c.next_element.ensures.same, same) at (c.in_ok-read_null.ensures.ok begins) in
-    let passes = c.in_ok-read_null.ensures.passes begins in
+    let nulls = rw (c.next_element.ensures.same, same) at (c.in_ok-read_null.ensures.reads.ok begins) in
+    let passes = c.in_ok-read_null.ensures.reads.passes begins in
     rw (c.read_null.ensures.same, c.next_element.ensures.same, same)
     (left_falls _ _ _ (g.met.D.ShapeDeserializer.lawful s0) _ _ _ _ _ _ _ _ None (child_null None) half.kept step (refl, c.is_sparse-sparse.ensures.0 c.if-sparse.true, nulls) passes)
 
@@ -199,7 +199,7 @@ read_list-loop-elements-smaller g t c =
     let s0 = g.D.ShapeDeserializer.settings c.args.source.now in
     let half = c.loop-elements.invariant.half in
     let same = c.loop-elements.invariant.same in
-    let step = rw (c.if-branch.true, same) at (c.in_ok-next_element.ensures.ok half.kept.due c.args.schema.now.shapes.now c.args.schema.now.place c.requires.place) in
+    let step = rw (c.if-branch.true, same) at (c.in_ok-next_element.ensures.goes_on.ok half.kept.due c.args.schema.now.shapes.now c.args.schema.now.place c.requires.place) in
     let place = element_place c.args.schema.now c.in-Some.element c.requires.place c.in-Some.ensures in
     let no_null : IsNoNull (g.D.ShapeDeserializer.wire s0) (g.D.ShapeDeserializer.state c.next_element.new.self) (kind_of c.args.schema.now.shapes.now c.args.schema.now.place) = λ sparse. elim c.else-sparse.branch [
       | read_list-else-sparse-via-then-sparse+else-is_null w ↦ rw (c.next_element.ensures.same, same) at (sym w.is_null.ensures ∙ w.if-is_null.false)
@@ -229,7 +229,7 @@ pub read_list-read_tree-requires : goal.read_list-read_tree-requires
 read_list-read_tree-requires g t c κs within =
     let half = c.loop-elements.invariant.half in
     let same = c.loop-elements.invariant.same in
-    let step = rw (c.if-branch.true, same) at (c.in_ok-next_element.ensures.ok half.kept.due c.args.schema.now.shapes.now c.args.schema.now.place c.requires.place) in
+    let step = rw (c.if-branch.true, same) at (c.in_ok-next_element.ensures.goes_on.ok half.kept.due c.args.schema.now.shapes.now c.args.schema.now.place c.requires.place) in
     let d = g.D.ShapeDeserializer in
     let most : d.max_depth (d.settings c.next_element.new.self) ≡ d.max_depth (d.settings c.args.source.now) = ap d.max_depth (c.next_element.ensures.same ∙ same) in
     let level : depth (d.state c.next_element.new.self) ≡ suc (depth (d.state c.args.source.now)) = ap length (step.outer ∙ half.kept.outer) in

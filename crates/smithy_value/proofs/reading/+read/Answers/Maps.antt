@@ -65,7 +65,7 @@ read_map-returns-in_err-read_null-clause-reads g t c =
     let step = rw (c.in-Some-2.is, same) at (c.in_ok-key.ensures.goes_on.ok half.kept.due c.args.schema.now.shapes.now c.args.schema.now.place c.requires.place) in
     let place = value_place c.args.schema.now c.in-Some.inner c.requires.place c.in-Some.ensures in
     let begins = sym c.is_null.ensures ∙ c.if-is_null.true in
-    let told = c.in_err-read_null.ensures in
+    let told = c.in_err-read_null.ensures.reads in
     let p = err_from_is_err_and c.from_residual-in_err-read_null.result c.from_residual-in_err-read_null.ensures.1 in
     rw (p.1, p.2)
     (null_entry_fails _ _ _ _ laws _ outer _ _ _ _ _ _ _ _ c.requires.place place.1 (c.is_sparse-sparse.ensures.0 c.if-sparse.true) half step (rw (c.take_key.ensures.same, same) at begins) told.conduct told.narrow told.shallow (rw (c.take_key.ensures.same, same) at told.refused) (rw (c.take_key.ensures.same, same) at told.none_without_limits))
@@ -81,8 +81,8 @@ read_map-returns-in_err-set_entry-clause-reads g t c =
     let same = c.loop-entries.invariant.same in
     let step = rw (c.in-Some-2.is, same) at (c.in_ok-key.ensures.goes_on.ok half.kept.due c.args.schema.now.shapes.now c.args.schema.now.place c.requires.place) in
     let begins = sym c.is_null.ensures ∙ c.if-is_null.true in
-    let nulls = rw (c.take_key.ensures.same, same) at (c.in_ok-read_null.ensures.ok begins) in
-    let passes = c.in_ok-read_null.ensures.passes begins in
+    let nulls = rw (c.take_key.ensures.same, same) at (c.in_ok-read_null.ensures.reads.ok begins) in
+    let passes = c.in_ok-read_null.ensures.reads.passes begins in
     let p = err_from_is_err_and c.from_residual-in_err-set_entry.result c.from_residual-in_err-set_entry.ensures.1 in
     rw (p.1, p.2)
     (memory_fails _ _ _ _ _ outer _ _ _ (null_entry_passed _ _ _ _ laws outer _ _ _ _ _ _ (c.is_sparse-sparse.ensures.0 c.if-sparse.true) half step nulls passes).reached c.in_err-set_entry.ensures.err)
@@ -98,8 +98,8 @@ read_map-loop-entries-preserved-then-is_null g t c =
     let same = c.loop-entries.invariant.same in
     let step = rw (c.in-Some-2.is, same) at (c.in_ok-key.ensures.goes_on.ok half.kept.due c.args.schema.now.shapes.now c.args.schema.now.place c.requires.place) in
     let begins = sym c.is_null.ensures ∙ c.if-is_null.true in
-    let nulls = rw (c.take_key.ensures.same, same) at (c.in_ok-read_null.ensures.ok begins) in
-    let passes = c.in_ok-read_null.ensures.passes begins in
+    let nulls = rw (c.take_key.ensures.same, same) at (c.in_ok-read_null.ensures.reads.ok begins) in
+    let passes = c.in_ok-read_null.ensures.reads.passes begins in
     let begun = c.loop-entries.invariant.begun in
     let sound = half_sound_at g.P.Trees.entries_grow_lawfully c.args.trees.now c.loop-entries.trees _ _ c.loop-entries.entries c.requires.sound begun half.reached.input in
     record {
@@ -193,8 +193,8 @@ read_map-loop-entries-smaller-then-is_null g t c =
     let same = c.loop-entries.invariant.same in
     let step = rw (c.in-Some-2.is, same) at (c.in_ok-key.ensures.goes_on.ok half.kept.due c.args.schema.now.shapes.now c.args.schema.now.place c.requires.place) in
     let begins = sym c.is_null.ensures ∙ c.if-is_null.true in
-    let nulls = rw (c.take_key.ensures.same, same) at (c.in_ok-read_null.ensures.ok begins) in
-    let passes = c.in_ok-read_null.ensures.passes begins in
+    let nulls = rw (c.take_key.ensures.same, same) at (c.in_ok-read_null.ensures.reads.ok begins) in
+    let passes = c.in_ok-read_null.ensures.reads.passes begins in
     rw (c.read_null.ensures.same, c.take_key.ensures.same, same)
     (left_falls _ _ _ (g.met.D.ShapeDeserializer.lawful s0) _ _ _ _ _ _ _ _ _ (child_null _) half.kept step (refl, c.is_sparse-sparse.ensures.0 c.if-sparse.true, nulls) passes)
 

@@ -109,7 +109,7 @@ read_structure-returns-in_err-skip_value-in-Unknown-clause-reads g t c =
     let half = c.loop-members.invariant.half in
     let same = c.loop-members.invariant.same in
     let step = rw (c.in-Unknown.is, same) at (c.in_ok-member.ensures.goes_on.ok half.kept.due) in
-    let told = c.in_err-skip_value-in-Unknown.ensures in
+    let told = c.in_err-skip_value-in-Unknown.ensures.skips in
     let p = err_from_is_err_and c.from_residual-in_err-skip_value-in-Unknown.result c.from_residual-in_err-skip_value-in-Unknown.ensures.1 in
     rw (p.1, p.2)
     (unknown_fails _ _ _ _ laws _ outer _ _ _ _ _ _ c.requires.place half step told.conduct told.narrow (rw (c.next_member.ensures.same, same) at told.deep) (rw (c.next_member.ensures.same, same) at told.limited) (rw (c.next_member.ensures.same, same) at told.refused) (rw (c.next_member.ensures.same, same) at told.none_without_limits))
@@ -124,11 +124,11 @@ read_structure-loop-members-preserved g t c =
     let half = c.loop-members.invariant.half in
     let same = c.loop-members.invariant.same in
     let step = rw (c.in-Unknown.is, same) at (c.in_ok-member.ensures.goes_on.ok half.kept.due) in
-    let skips = rw (c.next_member.ensures.same, same) at c.in_ok-skip_value-in-Unknown.ensures.ok in
+    let skips = rw (c.next_member.ensures.same, same) at c.in_ok-skip_value-in-Unknown.ensures.skips.ok in
     record {
       same = c.skip_value.ensures.same ∙ c.next_member.ensures.same ∙ same;
       begun = c.loop-members.invariant.begun;
-      half = unknown_passed _ _ _ _ laws outer _ _ _ _ _ c.requires.place half step skips c.in_ok-skip_value-in-Unknown.ensures.passes;
+      half = unknown_passed _ _ _ _ laws outer _ _ _ _ _ c.requires.place half step skips c.in_ok-skip_value-in-Unknown.ensures.skips.passes;
     }
 
 -- the structure ended
@@ -163,9 +163,9 @@ read_structure-loop-members-smaller g t c =
     let half = c.loop-members.invariant.half in
     let same = c.loop-members.invariant.same in
     let step = rw (c.in-Unknown.is, same) at (c.in_ok-member.ensures.goes_on.ok half.kept.due) in
-    let skips = rw (c.next_member.ensures.same, same) at c.in_ok-skip_value-in-Unknown.ensures.ok in
+    let skips = rw (c.next_member.ensures.same, same) at c.in_ok-skip_value-in-Unknown.ensures.skips.ok in
     rw (c.skip_value.ensures.same, c.next_member.ensures.same, same)
-    (left_falls _ _ _ (g.met.D.ShapeDeserializer.lawful (g.D.ShapeDeserializer.settings c.args.source.now)) _ _ _ _ _ _ _ _ (Some step.0) (child_unknown (Some step.0)) half.kept step.1 (refl, c.requires.place, step.2, skips) c.in_ok-skip_value-in-Unknown.ensures.passes)
+    (left_falls _ _ _ (g.met.D.ShapeDeserializer.lawful (g.D.ShapeDeserializer.settings c.args.source.now)) _ _ _ _ _ _ _ _ (Some step.0) (child_unknown (Some step.0)) half.kept step.1 (refl, c.requires.place, step.2, skips) c.in_ok-skip_value-in-Unknown.ensures.skips.passes)
 
 pub read_structure-no_members-members-requires : goal.read_structure-no_members-members-requires
 read_structure-no_members-members-requires g t c =

@@ -22,9 +22,9 @@ returns-in_err-read_struct-clause-called g c =
     let s = d.settings c.args.source.now in
     let site = site_of c.args.self.now.shape in
     rw (p.1, p.2) (
-      broke (may_answer _ _ _ (fields_fail tag_fields _ site _ _ _ _ _ c.in_err-read_struct.ensures.consumes c.in_err-read_struct.ensures.fails))
+      broke (may_answer _ _ _ (fields_fail tag_fields _ site _ _ _ _ _ c.in_err-read_struct.ensures.reads.consumes c.in_err-read_struct.ensures.reads.fails))
           (λ fault due. fields_refused tag_fields tag_members (reader (d.wire s) (d.lifted s) (d.tells_without_limits s) (d.max_depth s)) site (g.met.D.ShapeDeserializer.lawful s) c.args.self.now.is_tag
-          _ _ _ _ _ c.in_err-read_struct.ensures.consumes c.in_err-read_struct.field-0.0 refl fault due),
+          _ _ _ _ _ c.in_err-read_struct.ensures.reads.consumes c.in_err-read_struct.field-0.0 refl fault due),
       refl,
     )
 
@@ -38,6 +38,6 @@ returns-clause-called g c =
     let site = site_of c.args.self.now.shape in
     rw c.in_ok-push.ensures.items (
       put c.read_struct.new.consumer
-          (fields_read tag_fields tag_members _ site (g.met.D.ShapeDeserializer.lawful _) c.args.self.now.is_tag _ _ _ _ _ refl c.in_ok-read_struct.ensures.consumes c.in_ok-read_struct.ensures.takes),
+          (fields_read tag_fields tag_members _ site (g.met.D.ShapeDeserializer.lawful _) c.args.self.now.is_tag _ _ _ _ _ refl c.in_ok-read_struct.ensures.reads.consumes c.in_ok-read_struct.ensures.reads.takes),
       refl,
     )

@@ -1,0 +1,18 @@
+-- What a reader's own calls answer that go on in a structure or a union from a place on.
+use Rattle.std.specs.Prelude.{ℕ, ◌≤◌, ◌+◌, drop, Result, IfOk, IsErrOf}
+use Rattle.smithy_shapes.specs.Site.{Site}
+use Rattle.smithy_schema.specs.declared.error.SerdeError.{SerdeError}
+use Rattle.smithy_schema.specs.declared.error.SerdeError.TheVariants.{TooDeep}
+use Rattle.smithy_schema.specs.declared.step.Step.{Step}
+use Rattle.smithy_schema.specs.Errors.{RefusesNoKind, IsRefused, IsInvalid}
+use Rattle.smithy_schema.specs.Reading.{Cursor, depth, Relations, Conducts, MatchStep, CannotGoOn, passed_to}
+
+-- What such a call says of its answer, where nothing is due any more from this place on: by the relations w, and by u, those with
+-- the limits lifted.
+pub record StepsFrom (w u : Relations) (max : ℕ) (old : Cursor) (at : ℕ) (new : Cursor) (site : Site) (result : Result Step SerdeError) : Type 0 where
+  pub conduct : Conducts old new result
+  pub narrow : RefusesNoKind result
+  pub ok : IfOk result (λ step. MatchStep step w (passed_to old at) new site)
+  pub refused : IsRefused result → CannotGoOn w (passed_to old at) site.table site.place
+  pub none_without_limits : IsInvalid result → CannotGoOn u (passed_to old at) site.table site.place
+  pub deep : IsErrOf result TooDeep → max ≤ depth old + w.openers (drop at old.input)
