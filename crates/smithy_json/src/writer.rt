@@ -103,10 +103,7 @@ impl<'a> JsonValueWriter<'a> {
 fn value_writer(text: Result<&mut String, AllocError>) -> Result<JsonValueWriter<'_>, AllocError>
     ensures { result ≡ writer_of text.entry }
 {
-    match text {
-        Ok(output) => Ok(JsonValueWriter { output }),
-        Err(error) => Err(error),
-    }
+    Ok(JsonValueWriter { output: text? })
 }
 
 /// An array that has begun.

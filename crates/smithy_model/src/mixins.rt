@@ -86,10 +86,7 @@ fn redefined<'a>(earlier: &Member<'a>, given: &Member<'a>) -> Member<'a>
 fn place_of<'a>(places: &BTreeMap<&'a str, usize>, name: &'a str) -> Option<usize>
     ensures { result ≡ place_in places.now name.now }
 {
-    match places.get(name) {
-        Some(place) => Some(*place),
-        None => None,
-    }
+    Some(*places.get(name)?)
 }
 
 // Defines the member at this place again, and tells whether it had the same target.

@@ -29,10 +29,7 @@ fn hash_of(id: &str) -> u64 {
 fn id_at<'a>(ids: &[&'a str], number: usize) -> Option<&'a str>
     ensures { option_map (λ t. t.now) result ≡ slice_get (map (λ t. t.now) ids.now) number }
 {
-    match ids.get(number) {
-        Some(id) => Some(*id),
-        None => None,
-    }
+    Some(*ids.get(number)?)
 }
 
 // Whether the id at a place is this.

@@ -380,14 +380,12 @@ fn value_writer(place: NextPlace<'_>) -> Result<QueryValueWriter<'_>, AllocError
     ensures writer { IsWriterOf place.entry.output place.entry.path result }
 {
     let NextPlace { output, path } = place;
-    match path {
-        Ok(rest) => Ok(QueryValueWriter {
-            output,
-            base: "",
-            rest,
-        }),
-        Err(error) => Err(error),
-    }
+    let rest = path?;
+    Ok(QueryValueWriter {
+        output,
+        base: "",
+        rest,
+    })
 }
 
 // Adds the key of an entry where it and its value have paths, and gives the path of the value.

@@ -1,6 +1,6 @@
 //! Documents with the identifier of their shape.
 ghost use Rattle.std.specs.Prelude.{◌≡◌, ◌⊎◌, Some, IfOk, IfErr, option_map, string_bytes};
-ghost use Rattle.smithy_types.specs.Coercion.{coercion_of, means, refused, blob_in, instant_in};
+ghost use Rattle.smithy_types.specs.Coercion.{coercion_of, means, refused, blob_in, instant_in, TakesMemory};
 ghost use Rattle.smithy_types.specs.DocumentFault.{fault_of, no_memory, type_mismatch};
 ghost use Rattle.smithy_types.specs.DocumentView.{document_view};
 
@@ -150,7 +150,7 @@ impl DiscriminatedDocument {
     /// The bytes that a text stands for by the settings. A text without settings is unsupported, and all else is of another type.
     pub fn as_blob(&self, alloc: Global) -> Result<Vec<u8>, DocumentError>
         ensures ok { IfOk result (λ bytes. blob_in (discriminated_view self.now).settings (discriminated_view self.now).document ≡ means bytes.items) }
-        ensures err { IfErr result (λ e. (fault_of e ≡ no_memory) ⊎ (blob_in (discriminated_view self.now).settings (discriminated_view self.now).document ≡ refused (fault_of e))) }
+        ensures err { IfErr result (λ e. ((fault_of e ≡ no_memory) × TakesMemory (discriminated_view self.now).settings (discriminated_view self.now).document) ⊎ (blob_in (discriminated_view self.now).settings (discriminated_view self.now).document ≡ refused (fault_of e))) }
     {
         let Document::String(text) = &self.document else {
             return Err(wrong_type());

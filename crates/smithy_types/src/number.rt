@@ -5,8 +5,6 @@ ghost use Rattle.std.specs.Result.{OkIff};
 ghost use Rattle.std.specs.Int.{FitsUnsigned, w8, w16, w32, w64};
 ghost use Rattle.smithy_types.specs.Number.{whole_number};
 
-use std::num::TryFromIntError;
-
 /// A whole number of a document or a JSON text. Equal are two of one variant alone.
 #[derive(Debug, Clone, Copy, PartialEq)]
 pub enum Number {
@@ -20,12 +18,6 @@ pub enum Number {
 #[derive(Debug, Clone, Copy, PartialEq, Eq, thiserror::Error)]
 #[error("TryFromNumberError")]
 pub struct TryFromNumberError;
-
-impl From<TryFromIntError> for TryFromNumberError {
-    fn from(_: TryFromIntError) -> TryFromNumberError {
-        TryFromNumberError
-    }
-}
 
 impl Number {
     fn whole_number(self) -> i128
@@ -44,7 +36,9 @@ impl TryFrom<Number> for u8 {
     ghost try_from_gives = { λ n r. OkIff r (FitsUnsigned w8 (whole_number n)) (unsigned_abs (whole_number n)) };
 
     fn try_from(value: Number) -> Result<u8, TryFromNumberError> {
-        Ok(u8::try_from(value.whole_number())?)
+        u8::try_from(value.whole_number())
+            .ok()
+            .ok_or(TryFromNumberError)
     }
 }
 
@@ -54,7 +48,9 @@ impl TryFrom<Number> for u16 {
     ghost try_from_gives = { λ n r. OkIff r (FitsUnsigned w16 (whole_number n)) (unsigned_abs (whole_number n)) };
 
     fn try_from(value: Number) -> Result<u16, TryFromNumberError> {
-        Ok(u16::try_from(value.whole_number())?)
+        u16::try_from(value.whole_number())
+            .ok()
+            .ok_or(TryFromNumberError)
     }
 }
 
@@ -64,7 +60,9 @@ impl TryFrom<Number> for u32 {
     ghost try_from_gives = { λ n r. OkIff r (FitsUnsigned w32 (whole_number n)) (unsigned_abs (whole_number n)) };
 
     fn try_from(value: Number) -> Result<u32, TryFromNumberError> {
-        Ok(u32::try_from(value.whole_number())?)
+        u32::try_from(value.whole_number())
+            .ok()
+            .ok_or(TryFromNumberError)
     }
 }
 
@@ -74,7 +72,9 @@ impl TryFrom<Number> for u64 {
     ghost try_from_gives = { λ n r. OkIff r (FitsUnsigned w64 (whole_number n)) (unsigned_abs (whole_number n)) };
 
     fn try_from(value: Number) -> Result<u64, TryFromNumberError> {
-        Ok(u64::try_from(value.whole_number())?)
+        u64::try_from(value.whole_number())
+            .ok()
+            .ok_or(TryFromNumberError)
     }
 }
 
@@ -84,7 +84,9 @@ impl TryFrom<Number> for i8 {
     ghost try_from_gives = { λ n r. OkIff r (FitsSigned w8 (whole_number n)) (whole_number n) };
 
     fn try_from(value: Number) -> Result<i8, TryFromNumberError> {
-        Ok(i8::try_from(value.whole_number())?)
+        i8::try_from(value.whole_number())
+            .ok()
+            .ok_or(TryFromNumberError)
     }
 }
 
@@ -94,7 +96,9 @@ impl TryFrom<Number> for i16 {
     ghost try_from_gives = { λ n r. OkIff r (FitsSigned w16 (whole_number n)) (whole_number n) };
 
     fn try_from(value: Number) -> Result<i16, TryFromNumberError> {
-        Ok(i16::try_from(value.whole_number())?)
+        i16::try_from(value.whole_number())
+            .ok()
+            .ok_or(TryFromNumberError)
     }
 }
 
@@ -104,7 +108,9 @@ impl TryFrom<Number> for i32 {
     ghost try_from_gives = { λ n r. OkIff r (FitsSigned w32 (whole_number n)) (whole_number n) };
 
     fn try_from(value: Number) -> Result<i32, TryFromNumberError> {
-        Ok(i32::try_from(value.whole_number())?)
+        i32::try_from(value.whole_number())
+            .ok()
+            .ok_or(TryFromNumberError)
     }
 }
 
@@ -114,6 +120,8 @@ impl TryFrom<Number> for i64 {
     ghost try_from_gives = { λ n r. OkIff r (FitsSigned w64 (whole_number n)) (whole_number n) };
 
     fn try_from(value: Number) -> Result<i64, TryFromNumberError> {
-        Ok(i64::try_from(value.whole_number())?)
+        i64::try_from(value.whole_number())
+            .ok()
+            .ok_or(TryFromNumberError)
     }
 }

@@ -60,20 +60,14 @@ impl<M: Copy> OpenContainers<M> {
     pub fn innermost(&self) -> Option<Container>
         ensures { option_map open_of result ≡ innermost (opens_of self.now) }
     {
-        match self.stack.last() {
-            Some(innermost) => Some(innermost.container),
-            None => None,
-        }
+        Some(self.stack.last()?.container)
     }
 
     /// What is kept of the innermost container.
     pub fn mark(&self) -> Option<M>
         ensures { result ≡ innermost (marks_of self.now) }
     {
-        match self.stack.last() {
-            Some(innermost) => Some(innermost.mark),
-            None => None,
-        }
+        Some(self.stack.last()?.mark)
     }
 
     /// Keeps this of the innermost container from now on.
