@@ -2,7 +2,7 @@
 ghost use Rattle.std.specs.Prelude.{◌≡◌, ◌≤◌, ◌↔◌, ℕ, List, length, drop, true, IfOk, IfErr, IfSome, MatchOption};
 ghost use Rattle.std.specs.Cow.{cow_str_bytes, IsBorrowedStr};
 ghost use Rattle.cbor_item.specs.Strings.{BeginsIndefinite};
-ghost use Rattle.smithy_schema.specs.Spans.{text_bytes, span_bytes, IsTextPlaced, IsPlaced, IsTextBetween, IsBetween, NamesText, NamesBytes};
+ghost use Rattle.smithy_schema.specs.Spans.{text_bytes, span_bytes, IsTextPlaced, IsPlaced, IsTextBetween, IsBetween, NamesTextPlace, NamesBytesPlace};
 ghost use Rattle.smithy_cbor_values.specs.Standing.{Follows};
 ghost use Rattle.smithy_cbor_values.specs.Borrowed.{BorrowsText, BorrowsBytes};
 ghost use Rattle.smithy_cbor_values.specs.Private.ScalarAtPlace.{HasTextAt, IsBlobAt};
@@ -20,7 +20,7 @@ use std::borrow::{CowSlice, CowStr};
 pub(crate) fn span_of(text: CowStr<'_, Global>, end: usize) -> TextSpan
     requires { IsBorrowedStr text → length (cow_str_bytes text) ≤ end }
     ensures text { IsMeantUpTo text_bytes IsTextPlaced IsTextBetween text.entry end result }
-    ensures borrowed { NamesText result ↔ IsBorrowedStr text.entry }
+    ensures borrowed { NamesTextPlace result ↔ IsBorrowedStr text.entry }
 {
     match text {
         CowStr::Borrowed(borrowed) => TextSpan::Placed(end - borrowed.len(), borrowed.len()),
@@ -41,7 +41,7 @@ fn text_span_at(
         (λ r. HasTextAt (text_bytes input.now r.0) input.now at r.1 × Follows depth input.now r.1)) }
     ensures placed { IfOk result (λ o. IfSome o (λ r. IsTextPlaced input.now r.0)) }
     ensures between { IfOk result (λ o. IfSome o (λ r. IsTextBetween at r.1 r.0)) }
-    ensures borrowed { IfOk result (λ o. IfSome o (λ r. BorrowsText input.now at (NamesText r.0) r.1)) }
+    ensures borrowed { IfOk result (λ o. IfSome o (λ r. BorrowsText input.now at (NamesTextPlace r.0) r.1)) }
     ensures memory { IfErr result (λ e. BeginsIndefinite 3 (drop at input.now)) }
 {
     let Some((text, end)) = text_piece_at(alloc, input, at, depth)? else {
@@ -62,7 +62,7 @@ fn bytes_span_at(
     ensures found { IfOk result (λ o. MatchOption o ((blob : List ℕ) (e : ℕ) → IsBlobAt blob input.now at depth e → ⊥) (λ r. IsBlobAt (span_bytes input.now r.0) input.now at depth r.1)) }
     ensures placed { IfOk result (λ o. IfSome o (λ r. IsPlaced input.now r.0)) }
     ensures between { IfOk result (λ o. IfSome o (λ r. IsBetween at r.1 r.0)) }
-    ensures borrowed { IfOk result (λ o. IfSome o (λ r. BorrowsBytes input.now at (NamesBytes r.0) r.1)) }
+    ensures borrowed { IfOk result (λ o. IfSome o (λ r. BorrowsBytes input.now at (NamesBytesPlace r.0) r.1)) }
     ensures memory { IfErr result (λ e. BeginsIndefinite 2 (drop at input.now)) }
 {
     let Some((bytes, end)) = bytes_piece_at(alloc, input, at, depth)? else {
@@ -98,7 +98,7 @@ impl PieceDeserializer for CborDeserializer<'_> {
         ensures lies { IfOk result (IsTextBetween (cursor_of self.old).at (cursor_of self.new).at) }
 
         // A place is named exactly where the text is definite.
-        ensures borrowed { IfOk result (λ t. BorrowsText (cursor_of self.old).input (cursor_of self.old).at (NamesText t) (cursor_of self.new).at) }
+        ensures borrowed { IfOk result (λ t. BorrowsText (cursor_of self.old).input (cursor_of self.old).at (NamesTextPlace t) (cursor_of self.new).at) }
 
         // Only an indefinite text takes memory.
         ensures memory { IsErrOf result SerdeError.NoMemory → BeginsIndefinite 3 (drop (cursor_of self.old).at (cursor_of self.old).input) }
@@ -120,7 +120,7 @@ impl PieceDeserializer for CborDeserializer<'_> {
         ensures lies { IfOk result (IsBetween (cursor_of self.old).at (cursor_of self.new).at) }
 
         // A place is named exactly where the byte string is definite.
-        ensures borrowed { IfOk result (λ b. BorrowsBytes (cursor_of self.old).input (cursor_of self.old).at (NamesBytes b) (cursor_of self.new).at) }
+        ensures borrowed { IfOk result (λ b. BorrowsBytes (cursor_of self.old).input (cursor_of self.old).at (NamesBytesPlace b) (cursor_of self.new).at) }
 
         // Only an indefinite byte string takes memory.
         ensures memory { IsErrOf result SerdeError.NoMemory → BeginsIndefinite 2 (drop (cursor_of self.old).at (cursor_of self.old).input) }

@@ -10,7 +10,7 @@ impl PieceDeserializer for JsonDeserializer<'_, '_> {
     ghost use Rattle.smithy_declarations.specs.Value.{text, bytes};
     ghost use Rattle.smithy_shapes.specs.Site.{site_of};
     ghost use Rattle.smithy_schema.specs.Reading.{ReadsScalar};
-    ghost use Rattle.smithy_schema.specs.Spans.{text_bytes, span_bytes, IsTextPlaced, IsPlaced, IsTextBetween, IsBetween, NamesText, NamesBytes};
+    ghost use Rattle.smithy_schema.specs.Spans.{text_bytes, span_bytes, IsTextPlaced, IsPlaced, IsTextBetween, IsBetween, NamesTextPlace, NamesBytesPlace};
     ghost use Rattle.smithy_json_values.specs.Borrowed.{BorrowsText, LiesEscaped};
     ghost use Rattle.smithy_json_values.specs.Settings.{keep_limits, without_limits};
     ghost use Rattle.smithy_json_values.specs.Standing.{json_grammar, json_relations};
@@ -28,7 +28,7 @@ impl PieceDeserializer for JsonDeserializer<'_, '_> {
         ensures lies { IfOk result (IsTextBetween (cursor_of self.old).at (cursor_of self.new).at) }
 
         // A place is named exactly where no backslash stands in the string.
-        ensures borrowed { IfOk result (λ t. BorrowsText (json_grammar (reading_settings_of self.old)) (cursor_of self.old).input (cursor_of self.old).at (NamesText t) (cursor_of self.new).at) }
+        ensures borrowed { IfOk result (λ t. BorrowsText (json_grammar (reading_settings_of self.old)) (cursor_of self.old).input (cursor_of self.old).at (NamesTextPlace t) (cursor_of self.new).at) }
 
         // Only a string with a backslash takes memory.
         ensures memory { IsErrOf result SerdeError.NoMemory → LiesEscaped (json_grammar (reading_settings_of self.old)) (cursor_of self.old).input (cursor_of self.old).at }
@@ -48,7 +48,7 @@ impl PieceDeserializer for JsonDeserializer<'_, '_> {
         ensures lies { IfOk result (IsBetween (cursor_of self.old).at (cursor_of self.new).at) }
 
         // No place is ever named, as a string holds the bytes as base64.
-        ensures owned { IfOk result (λ b. NamesBytes b → ⊥) }
+        ensures owned { IfOk result (λ b. NamesBytesPlace b → ⊥) }
     {
         self.walk.ready()?;
         let input = self.walk.input;

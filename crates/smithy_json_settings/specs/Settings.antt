@@ -1,5 +1,5 @@
--- What reading and writing JSON depend on beside table and place, and what a codec is asked for. A setting has a field of the
--- record, what it is where none is set, what it is where RFC 8259 is read to the letter, and what contracts see of it.
+-- What reading and writing JSON depend on beside table and place, and what a codec is asked for. Each setting stands in the record,
+-- in its default, where RFC 8259 is read to the letter if it differs there, and in what contracts see of the struct.
 use Rattle.std.specs.Prelude.{ℕ, List, Bool, true, false, Option, None, codes}
 use Rattle.smithy_instants.specs.declared.format.Format.{Format}
 use Rattle.smithy_instants.specs.declared.format.Format.TheVariants.{EpochSeconds}

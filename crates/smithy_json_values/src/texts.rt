@@ -1,7 +1,7 @@
 //! The texts that strings stand for, and the bytes that texts encode.
 ghost use Rattle.std.specs.Prelude.{◌≡◌, ◌↔◌, true, false, ◌≤◌, ℕ, List, length, IfOk, IfErr, IfSome, option_map, option_and_then, string_bytes};
 ghost use Rattle.std.specs.Cow.{cow_str_bytes, cow_slice_items, IsBorrowedStr, IsOwnedSlice};
-ghost use Rattle.smithy_schema.specs.Spans.{text_bytes, span_bytes, IsTextPlaced, IsPlaced, IsTextBetween, IsBetween, NamesText, NamesBytes};
+ghost use Rattle.smithy_schema.specs.Spans.{text_bytes, span_bytes, IsTextPlaced, IsPlaced, IsTextBetween, IsBetween, NamesTextPlace, NamesBytesPlace};
 ghost use Rattle.smithy_texts.specs.Base64Text.{blob_of as base64_of};
 ghost use Rattle.smithy_json_grammar.specs.Unescape.{unescaped, has_escape};
 ghost use Rattle.smithy_json_values.specs.Borrowed.{BorrowsText, LiesEscaped};
@@ -112,7 +112,7 @@ pub fn span_of(
 ) -> Result<Option<TextSpan>, AllocError>
     requires { is_escaped ≡ has_escape raw.now }
     ensures text { IfOk result (IsMeantFrom text_bytes IsTextPlaced IsTextBetween at raw.now) }
-    ensures borrowed { IfOk result (λ text. IfSome text (λ text. NamesText text ↔ (has_escape raw.now ≡ false))) }
+    ensures borrowed { IfOk result (λ text. IfSome text (λ text. NamesTextPlace text ↔ (has_escape raw.now ≡ false))) }
     ensures memory { IfErr result (λ e. has_escape raw.now ≡ true) }
 {
     if !is_escaped {
@@ -137,7 +137,7 @@ pub fn text_span_at(
     ensures found { IfOk result (Finds (TextLies (held_grammar settings.now) input.now at) (text_bytes input.now)) }
     ensures placed { IfOk result (λ o. IfSome o (λ r. IsTextPlaced input.now r.0)) }
     ensures between { IfOk result (λ o. IfSome o (λ r. IsTextBetween at r.1 r.0)) }
-    ensures borrowed { IfOk result (λ o. IfSome o (λ r. BorrowsText (held_grammar settings.now) input.now at (NamesText r.0) r.1)) }
+    ensures borrowed { IfOk result (λ o. IfSome o (λ r. BorrowsText (held_grammar settings.now) input.now at (NamesTextPlace r.0) r.1)) }
     ensures memory { IfErr result (λ e. LiesEscaped (held_grammar settings.now) input.now at) }
 {
     let Some(string) = string_at(input, at, settings) else {
@@ -221,7 +221,7 @@ pub fn bytes_span_at(
     ensures found { IfOk result (Finds (BlobLies (held_grammar settings.now) input.now at) (span_bytes input.now)) }
     ensures placed { IfOk result (λ o. IfSome o (λ r. IsPlaced input.now r.0)) }
     ensures between { IfOk result (λ o. IfSome o (λ r. IsBetween at r.1 r.0)) }
-    ensures owned { IfOk result (λ o. IfSome o (λ r. NamesBytes r.0 → ⊥)) }
+    ensures owned { IfOk result (λ o. IfSome o (λ r. NamesBytesPlace r.0 → ⊥)) }
 {
     let Some((blob, end)) = blob_at(alloc, input, at, settings)? else {
         return Ok(None);

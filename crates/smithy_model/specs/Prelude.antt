@@ -20,7 +20,7 @@ scalar_names =
 abbrev pub plain : List ℕ → Kind → Shape
 plain id kind = record { id = id; kind = kind; mixins = []; is_sparse = false; is_flattened = false; time_format = None }
 
--- what is named so
+-- the kind of such a name
 abbrev pub kind_named : List ℕ → Kind
 kind_named name = if bytes_eq name (codes "float") then float else simple name
 

@@ -99,6 +99,7 @@ IsKindNumbered ids (list given) k = (m : Member) × (k ≡ list m) × IsNumbered
 IsKindNumbered ids (map key value) k = (a b : Member) × (k ≡ map a b) × IsNumbered ids key a × IsNumbered ids value b
 IsKindNumbered ids given k = k ≡ given
 
+-- the shape with the number of each target
 abbrev pub IsShapeNumbered : List (List ℕ) → Shape → Shape → Type 0
 IsShapeNumbered ids given s = (s ≡ record given { kind = s.kind }) × IsKindNumbered ids given.kind s.kind
 

@@ -23,7 +23,10 @@ fn members_of<'s, 'a>(kind: &'s Kind<'a>) -> Option<&'s [Member<'a>]>
 fn structure_at<'m, 'a>(model: &'m Model<'a>, number: usize) -> Option<&'m [Member<'a>]>
     ensures { option_map (λ ms. map member_view ms.now) result ≡ structure_at (model_view model.now) number }
 {
-    members_of(&shape_at(model, number)?.kind)
+    match shape_at(model, number) {
+        Some(shape) => members_of(&shape.kind),
+        None => None,
+    }
 }
 
 // The number of the target of the first member that is the whole body.
@@ -57,15 +60,20 @@ fn body_at(model: &Model<'_>, number: usize) -> Option<usize>
 {
     let members = structure_at(model, number)?;
     let root = body_of(model, number, members);
-    structure_at(model, root)?;
-    Some(root)
+    match structure_at(model, root) {
+        Some(_) => Some(root),
+        None => None,
+    }
 }
 
 /// The body of what an operation refers to, if it does.
 pub(crate) fn body_if(model: &Model<'_>, given: &Option<Reference<'_>>) -> Option<usize>
     ensures { result ≡ body_if (model_view model.now) (option_map reference_view given.now) }
 {
-    body_at(model, given.as_ref()?.number)
+    match given {
+        Some(reference) => body_at(model, reference.number),
+        None => None,
+    }
 }
 
 // Adds a number, where one is given.

@@ -26,9 +26,9 @@ IsTextBetween from to (texts.Placed at size) = (from ≤ at) × (at + size ≤ t
 IsTextBetween from to (texts.Owned s) = Unit {0}
 
 -- a place is named
-abbrev pub NamesText : TextSpan → Type 0
-NamesText (texts.Placed at size) = Unit {0}
-NamesText (texts.Owned s) = ⊥
+abbrev pub NamesTextPlace : TextSpan → Type 0
+NamesTextPlace (texts.Placed at size) = Unit {0}
+NamesTextPlace (texts.Owned s) = ⊥
 
 -- the bytes that are meant
 abbrev pub span_bytes : List ℕ → BytesSpan → List ℕ
@@ -46,6 +46,6 @@ IsBetween from to (bytes.Placed at size) = (from ≤ at) × (at + size ≤ to)
 IsBetween from to (bytes.Owned b) = Unit {0}
 
 -- a place is named
-abbrev pub NamesBytes : BytesSpan → Type 0
-NamesBytes (bytes.Placed at size) = Unit {0}
-NamesBytes (bytes.Owned b) = ⊥
+abbrev pub NamesBytesPlace : BytesSpan → Type 0
+NamesBytesPlace (bytes.Placed at size) = Unit {0}
+NamesBytesPlace (bytes.Owned b) = ⊥

@@ -4,7 +4,7 @@ use Rattle.std.proofs.lemmas.List.{append-nil, map-append, drop-append-le, drop_
 use Rattle.smithy_declarations.specs.Value.{Value, Values, value, values_of, list}
 use Rattle.smithy_tree.specs.Items.{Item, shown_of, whole_value, whole_values, elements_of}
 use Rattle.smithy_tree.specs.Nodes.{Store, values_over, values_after, number_slot, AreNodes}
-use Rattle.smithy_tree.specs.Seen.{store, values, waiting, IsSound, Grows, Waits, Closes, IsHalf, numbers_in, elements_in, PutsElement, ClosesElements}
+use Rattle.smithy_tree.specs.Seen.{store, values, waiting, IsSound, Grows, Waits, Closes, ElementsStand, numbers_in, elements_in, PutsElement, ClosesElements}
 use Rattle.smithy_tree.specs.declared.elements.Elements.{Elements}
 use Rattle.smithy_tree.specs.declared.node.Node.TheVariants as nodes
 use Rattle.smithy_tree.specs.declared.node.Slot.{Slot}
@@ -15,20 +15,20 @@ use Rattle.smithy_tree.proofs.Seeing.{grows_self, grows_twice}
 
 -- ---- as the pool grows
 
-pub half_still : (q r : Pool) (e : Elements) → Grows q r → waiting r ≡ waiting q → IsHalf q e → IsHalf r e
+pub half_still : (q r : Pool) (e : Elements) → Grows q r → waiting r ≡ waiting q → ElementsStand q e → ElementsStand r e
 half_still q r e g w h = record {
   ordered = h.ordered;
   numbers = rw g.numbers (omega (arith, h.numbers, length-append q.numbers.items g.counted));
   waiting = rw w h.waiting;
 }
 
-pub numbers_still : (q r : Pool) (e : Elements) → Grows q r → IsHalf q e → numbers_in r e ≡ numbers_in q e
+pub numbers_still : (q r : Pool) (e : Elements) → Grows q r → ElementsStand q e → numbers_in r e ≡ numbers_in q e
 numbers_still q r e g h =
     let within : e.numbers_from + (e.numbers_to - e.numbers_from) ≤ length q.numbers.items = omega (arith, h.ordered, h.numbers) in
     ap (λ (ns : List ℤ). take (e.numbers_to - e.numbers_from) (drop e.numbers_from ns)) g.numbers
     ∙ part_stays e.numbers_from (e.numbers_to - e.numbers_from) q.numbers.items g.counted within
 
-pub elements_still : (q r : Pool) (e : Elements) → Grows q r → waiting r ≡ waiting q → IsHalf q e → elements_in r e ≡ elements_in q e
+pub elements_still : (q r : Pool) (e : Elements) → Grows q r → waiting r ≡ waiting q → ElementsStand q e → elements_in r e ≡ elements_in q e
 elements_still q r e g w h =
     ap (λ (ns : List ℤ). whole_values ns ++ shown_of (drop e.waiting_from (waiting r))) (numbers_still q r e g h)
     ∙ ap (λ (ws : List Item). whole_values (numbers_in q e) ++ shown_of (drop e.waiting_from ws)) w
@@ -40,7 +40,7 @@ shown-append [] ys = refl
 shown-append (x ∷ xs) ys = ap (λ (vs : List Value). x.shown ∷ vs) (shown-append xs ys)
 
 -- it waits
-pub waits_behind : (p q : Pool) (e : Elements) (x : Item) → Waits p q x → IsHalf p e → PutsElement p q e e x.shown
+pub waits_behind : (p q : Pool) (e : Elements) (x : Item) → Waits p q x → ElementsStand p e → PutsElement p q e e x.shown
 waits_behind p q e x w h =
     let b = e.waiting_from in
     let ws = waiting p in
@@ -105,7 +105,7 @@ run_more from to after ns n ordered ends next =
     ∙ ap (λ (ms : List ℤ). ms ++ n ∷ []) (sym (run_of from to ns (omega (arith, ends)))))
 
 -- it is a number behind the others
-pub counts_behind : (p q : Pool) (e f : Elements) (n : ℤ) → IsSound p → IsHalf p e → store q ≡ more (store p) [] [] (n ∷ []) → q.nodes.items ≡ p.nodes.items → q.waiting.items ≡ p.waiting.items
+pub counts_behind : (p q : Pool) (e f : Elements) (n : ℤ) → IsSound p → ElementsStand p e → store q ≡ more (store p) [] [] (n ∷ []) → q.nodes.items ≡ p.nodes.items → q.waiting.items ≡ p.waiting.items
     → length (waiting p) ≡ e.waiting_from → length p.numbers.items ≡ e.numbers_to → f.numbers_from ≡ e.numbers_from → f.numbers_to ≡ e.numbers_to + 1 → f.waiting_from ≡ e.waiting_from → PutsElement p q e f (whole_value n)
 counts_behind p q e f n sound h is nodes_are waiting_are none_waits ends from to begins =
     let ns = p.numbers.items in
@@ -146,7 +146,7 @@ shown_elements [] = refl
 shown_elements (x ∷ xs) = ap (λ (vs : Values). value x.shown vs) (shown_elements xs)
 
 -- no numbers stand before those that wait
-pub closes_waiting : (p q : Pool) (e : Elements) (at count : ℕ) → IsHalf p e → e.numbers_to - e.numbers_from ≡ 0 → Closes p q e.waiting_from at count → ClosesElements p q e (nodes.List at count)
+pub closes_waiting : (p q : Pool) (e : Elements) (at count : ℕ) → ElementsStand p e → e.numbers_to - e.numbers_from ≡ 0 → Closes p q e.waiting_from at count → ClosesElements p q e (nodes.List at count)
 closes_waiting p q e at count h none c =
     let ws = drop e.waiting_from (waiting p) in
     record {
@@ -158,7 +158,7 @@ closes_waiting p q e at count h none c =
     }
 
 -- nothing waits behind the numbers
-pub closes_numbers : (p : Pool) (e : Elements) (at count : ℕ) → IsSound p → IsHalf p e → length (waiting p) ≡ e.waiting_from → at ≡ e.numbers_from → count ≡ e.numbers_to - e.numbers_from → ClosesElements p p e (nodes.Numbers at count)
+pub closes_numbers : (p : Pool) (e : Elements) (at count : ℕ) → IsSound p → ElementsStand p e → length (waiting p) ≡ e.waiting_from → at ≡ e.numbers_from → count ≡ e.numbers_to - e.numbers_from → ClosesElements p p e (nodes.Numbers at count)
 closes_numbers p e at count sound h none_waits begins counted =
     let ns = numbers_in p e in
     record {
@@ -231,7 +231,7 @@ take_both {A} (x ∷ xs) ys all count is =
     ap (λ (k : ℕ). take k (x ∷ (xs ++ ys))) next ∙ ap (λ (zs : List A). x ∷ zs) (take_both xs ys (length xs + count) count refl)
 
 -- the numbers have become nodes, and those that wait others behind them
-pub closes_mixed : (p q r : Pool) (e : Elements) (at count start all : ℕ) → IsSound p → IsHalf p e → store q ≡ store p → q.nodes.items ≡ p.nodes.items ++ mapped number_slot (numbers_in p e) → q.waiting.items ≡ p.waiting.items
+pub closes_mixed : (p q r : Pool) (e : Elements) (at count start all : ℕ) → IsSound p → ElementsStand p e → store q ≡ store p → q.nodes.items ≡ p.nodes.items ++ mapped number_slot (numbers_in p e) → q.waiting.items ≡ p.waiting.items
     → Closes q r e.waiting_from at count → start ≡ length p.nodes.items → all ≡ at - start + count → ClosesElements p r e (nodes.List start all)
 closes_mixed p q r e at count start all sound h is nodes_are waiting_are c begins sum =
     let ns = numbers_in p e in

@@ -11,7 +11,7 @@ use Rattle.smithy_tree.specs.declared.node.Slot.{Slot}
 use Rattle.smithy_tree.specs.declared.node.Node.TheVariants as nodes
 use Rattle.smithy_tree.specs.declared.node.Rare.TheVariants as rares
 
--- what nodes name by numbers: the bytes of the input, those beside it, the rare values, and the whole numbers of lists
+-- what nodes name by places: the bytes of the input, those beside it, the rare values, and the whole numbers of lists
 pub record Store : Type 0 where
   pub input : List ℕ
   pub side : List ℕ

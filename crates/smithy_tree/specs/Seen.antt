@@ -101,7 +101,7 @@ abbrev pub elements_in : Pool → Elements → List Value
 elements_in p e = whole_values (numbers_in p e) ++ shown_of (drop e.waiting_from (waiting p))
 
 -- these elements stand in the pool
-pub record IsHalf (p : Pool) (e : Elements) : Type 0 where
+pub record ElementsStand (p : Pool) (e : Elements) : Type 0 where
   pub ordered : e.numbers_from ≤ e.numbers_to
   pub numbers : e.numbers_to ≤ length p.numbers.items
   pub waiting : e.waiting_from ≤ length (waiting p)
@@ -109,7 +109,7 @@ pub record IsHalf (p : Pool) (e : Elements) : Type 0 where
 -- an element stands behind the others
 pub record PutsElement (p q : Pool) (e f : Elements) (v : Value) : Type 0 where
   pub grows : Grows p q
-  pub half : IsHalf q f
+  pub half : ElementsStand q f
   pub begins : f.waiting_from ≡ e.waiting_from
   pub added : List Item
   pub waiting : waiting q ≡ waiting p ++ added

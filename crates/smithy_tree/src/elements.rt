@@ -19,12 +19,12 @@ pub struct Elements {
 
 impl<'a> Pool<'a> {
     ghost use Rattle.std.specs.Prelude.{◌≡◌, ◌≤◌, ◌+◌, [], length, OnOk, IfOk, take, drop};
-    ghost use Rattle.smithy_tree.specs.Seen.{store, view, waiting, HoldsSlot, IsSound, elements_in, IsHalf, PutsElement, ClosesElements};
+    ghost use Rattle.smithy_tree.specs.Seen.{store, view, waiting, HoldsSlot, IsSound, elements_in, ElementsStand, PutsElement, ClosesElements};
 
-    /// No elements.
+    /// The elements of a list that has none yet.
     #[inline(always)]
     pub fn no_elements(&self) -> Elements
-        ensures half { IsHalf self.now result }
+        ensures half { ElementsStand self.now result }
         ensures begins { result.waiting_from ≡ length (waiting self.now) }
         ensures none { elements_in self.now result ≡ [] }
     {
@@ -40,7 +40,7 @@ impl<'a> Pool<'a> {
     #[inline(always)]
     pub fn push_element(&mut self, elements: &mut Elements, slot: Slot) -> Result<(), AllocError>
         requires sound { IsSound self.old }
-        requires half { IsHalf self.old elements.old }
+        requires half { ElementsStand self.old elements.old }
         requires holds { HoldsSlot self.old slot }
         ensures ok { OnOk result (PutsElement self.old self.new elements.old elements.new (view self.old slot.node)) }
     {
@@ -57,11 +57,11 @@ impl<'a> Pool<'a> {
         Ok(())
     }
 
-    /// Makes a list of these elements.
+    /// Makes a list of these elements. It is refused where memory is wanting, or a place leaves 32 bits.
     #[inline(always)]
     pub fn close_elements(&mut self, elements: Elements) -> Result<Node, AllocError>
         requires sound { IsSound self.old }
-        requires half { IsHalf self.old elements }
+        requires half { ElementsStand self.old elements }
         ensures ok { IfOk result (λ n. ClosesElements self.old self.new elements n) }
     {
         let count = elements.numbers_to - elements.numbers_from;
@@ -82,7 +82,7 @@ impl<'a> Pool<'a> {
     #[inline(never)]
     fn close_mixed(&mut self, elements: Elements) -> Result<Node, AllocError>
         requires sound { IsSound self.old }
-        requires half { IsHalf self.old elements }
+        requires half { ElementsStand self.old elements }
         ensures ok { IfOk result (λ n. ClosesElements self.old self.new elements n) }
     {
         let start = self.nodes.len();

@@ -59,14 +59,14 @@ abbrev pub blob_in : Option Coercion → Document Number → Coerced (List ℕ)
 blob_in settings d =
     option_map_or (λ s. option_map_or (λ c. blob_by c s) settings (refused unsupported)) (text_of d) (refused type_mismatch)
 
--- memory is taken for a text alone, and only by settings
-abbrev pub TakesMemory : Option Coercion → Document Number → Type 0
-TakesMemory (Some c) (text s) = Unit {0}
-TakesMemory settings d = ⊥
-
 abbrev pub instant_in : Option Coercion → Document Number → Coerced ℤ
 instant_in None (text s) = refused unsupported
 instant_in (Some c) (text s) = date_by c s
 instant_in None (number n) = or_invalid (seconds_of_number n)
 instant_in (Some c) (number n) = seconds_by c.default_timestamp_format n
 instant_in settings d = refused type_mismatch
+
+-- only a text takes memory, and only where there are settings
+abbrev pub TakesMemory : Option Coercion → Document Number → Type 0
+TakesMemory (Some c) (text s) = Unit {0}
+TakesMemory settings d = ⊥

@@ -4,7 +4,7 @@ use Rattle.std.proofs.lemmas.List.{append-nil, drop_at, take_at, drop-append-le}
 use Rattle.smithy_declarations.specs.Value.{Value, Values, value, values_of, MemberValues, no_member_values, member_value, put_member, MapEntries, no_map_entries, map_entry, put_entry, list, union}
 use Rattle.smithy_tree.specs.Items.{Item, nothing, elements_of, entries_of, members_of, put_members, put_entries}
 use Rattle.smithy_tree.specs.Nodes.{IsLabel, union_of, values_over}
-use Rattle.smithy_tree.specs.Seen.{IsSound, IsHalf, Grows, Holds, HoldsSlot, Waits, Closes, PutsElement, ClosesElements, store, values, view, waiting, item_in, elements_in}
+use Rattle.smithy_tree.specs.Seen.{IsSound, ElementsStand, Grows, Holds, HoldsSlot, Waits, Closes, PutsElement, ClosesElements, store, values, view, waiting, item_in, elements_in}
 use Rattle.smithy_tree.specs.declared.elements.Elements.{Elements}
 use Rattle.smithy_tree.specs.declared.node.Node.{Node}
 use Rattle.smithy_tree.specs.declared.node.Node.TheVariants as nodes
@@ -52,7 +52,7 @@ begun_none p begin sound begins = record {
   begins = begins;
 }
 
-pub begun_no_elements : (p : Pool) (e : Elements) → IsSound p → IsHalf p e → e.waiting_from ≡ length (waiting p) → BegunElements p p e
+pub begun_no_elements : (p : Pool) (e : Elements) → IsSound p → ElementsStand p e → e.waiting_from ≡ length (waiting p) → BegunElements p p e
 begun_no_elements p e sound half begins = record {
   grows = grows_self p sound;
   half = half;

@@ -3,7 +3,7 @@ use Rattle.std.specs.Prelude.{◌≡◌, ℕ, List, ◌++◌, length, drop}
 use Rattle.smithy_declarations.specs.Value.{Value, MapEntries, no_map_entries, MemberValues, no_member_values}
 use Rattle.smithy_tree.specs.Items.{Item, put_members, put_entries}
 use Rattle.smithy_tree.specs.Nodes.{slot_key}
-use Rattle.smithy_tree.specs.Seen.{IsSound, IsHalf, Grows, bytes_of, view, waiting}
+use Rattle.smithy_tree.specs.Seen.{IsSound, ElementsStand, Grows, bytes_of, view, waiting}
 use Rattle.smithy_tree.specs.declared.elements.Elements.{Elements}
 use Rattle.smithy_tree.specs.declared.node.Slot.{Slot}
 use Rattle.smithy_tree.specs.declared.pool.Pool.{Pool}
@@ -29,7 +29,7 @@ pub record Keeps (p q : Pool) : Type 0 where
 -- the pool q has grown from p, and behind the children that waited in p others wait, which are of this list
 pub record BegunElements (p q : Pool) (e : Elements) : Type 0 where
   pub grows : Grows p q
-  pub half : IsHalf q e
+  pub half : ElementsStand q e
   pub items : List Item
   pub waits : waiting q ≡ waiting p ++ items
   pub begins : e.waiting_from ≡ length (waiting p)

@@ -7,7 +7,7 @@ use Rattle.smithy_cbor_codec.specs.declared.members.Next.TheVariants.{Pair, End}
 use Rattle.smithy_cbor_values.specs.Borrowed.{BorrowsText}
 use Rattle.smithy_cbor_values.specs.Private.ScalarAtPlace.{HasTextAt}
 
--- what is handed out for a text is the text, in whatever input its item stands that ends there
+-- in whatever input this text is an item that ends at e, what is handed out is the text, and lies in the item
 abbrev pub IsMeantUpTo : {A T : Type 0} → (List ℕ → T → List ℕ) → (List ℕ → T → Type 0) → (ℕ → ℕ → T → Type 0) → CowStr A → ℕ → T → Type 0
 IsMeantUpTo bytes stands lies text e handed =
     (input : List ℕ) (at : ℕ) → BorrowsText input at (IsBorrowedStr text) e → HasTextAt (cow_str_bytes text) input at e

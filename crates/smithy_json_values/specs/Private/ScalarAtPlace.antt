@@ -11,9 +11,9 @@ use Rattle.smithy_json_values.specs.Scalar.{JsonScalar, a_number, a_string, byte
 use Rattle.smithy_json_values.specs.LexicalGrammar.{LexicalGrammar, LiesInGrammar}
 use Rattle.smithy_wire.specs.Rules.{means, no_meaning, wide, uncarried}
 
--- a search found what lies there, as this shows it, with its end, and found nothing where nothing lies
+-- a search found what stands there, as this shows it, with its end, or nothing where nothing does
 abbrev pub Finds : {A : Type 0} {V : Type 0} → (V → ℕ → Type 0) → (A → V) → Option (A × ℕ) → Type 0
-Finds Lies shown found = MatchOption found ((x : _) (e : ℕ) → Lies x e → ⊥) (λ r. Lies (shown r.0) r.1)
+Finds found_at shown found = MatchOption found ((x : _) (e : ℕ) → found_at x e → ⊥) (λ r. found_at (shown r.0) r.1)
 
 -- a string that has this text lies there
 pub record TextLies (g : LexicalGrammar) (input : List ℕ) (at : ℕ) (text : List ℕ) (e : ℕ) : Type 0 where

@@ -1,7 +1,7 @@
 use Rattle.std.proofs.Common.{◌≡◌, ◌≤◌, length, drop, sym, ◌∙◌, rules}
 use Rattle.cbor_item.specs.Strings.{BeginsIndefinite}
 use Rattle.smithy_shapes.specs.Site.{site_of}
-use Rattle.smithy_schema.specs.Spans.{text_bytes, IsTextPlaced, IsTextBetween, NamesText}
+use Rattle.smithy_schema.specs.Spans.{text_bytes, IsTextPlaced, IsTextBetween, NamesTextPlace}
 use Rattle.smithy_cbor_values.specs.Borrowed.{BorrowsText}
 use Rattle.smithy_cbor_codec.specs.Cursor.{cursor_of, reading_settings_of}
 use Rattle.smithy_cbor_values.proofs.ScalarReads.{reads_text, found_is}
@@ -41,7 +41,7 @@ returns-clause-borrowed c =
     let found = rw (c.end_depth.ensures, same) at c.text_span_at-found.ensures in
     let take = rw same at c.take_found.ensures in
     let old = cursor_of c.args.self.now in
-    found_is old _ c.take_found.result (λ x. BorrowsText old.input old.at (NamesText x)) c.text_span_at-found.result found.borrowed take.taken
+    found_is old _ c.take_found.result (λ x. BorrowsText old.input old.at (NamesTextPlace x)) c.text_span_at-found.result found.borrowed take.taken
 
 pub returns-clause-memory : goal.returns-clause-memory
 returns-clause-memory c =

@@ -1,6 +1,6 @@
 use Rattle.std.proofs.Common.{◌≡◌, ◌≤◌, length, sym, ◌∙◌, rules}
 use Rattle.smithy_shapes.specs.Site.{site_of}
-use Rattle.smithy_schema.specs.Spans.{span_bytes, IsPlaced, IsBetween, NamesBytes}
+use Rattle.smithy_schema.specs.Spans.{span_bytes, IsPlaced, IsBetween, NamesBytesPlace}
 use Rattle.smithy_json_codec.specs.Cursor.{cursor_of, reading_settings_of}
 use Rattle.smithy_json_codec.proofs.DeserializerLemmas.{takes_so}
 use Rattle.smithy_json_codec.proofs.ScalarReads.{reads_bytes}
@@ -44,4 +44,4 @@ returns-clause-owned c =
     let taken = rw same at c.take_found-answer.ensures.taken in
     let old = cursor_of c.args.self.now in
     rw c.told.ensures
-    (if_told _ c.take_found-answer.result _ (takes_so (λ x e. NamesBytes x → ⊥) old _ c.bytes_span_at-found.result c.take_found-answer.result found.owned taken))
+    (if_told _ c.take_found-answer.result _ (takes_so (λ x e. NamesBytesPlace x → ⊥) old _ c.bytes_span_at-found.result c.take_found-answer.result found.owned taken))

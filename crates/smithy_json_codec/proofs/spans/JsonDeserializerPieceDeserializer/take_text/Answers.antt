@@ -1,6 +1,6 @@
 use Rattle.std.proofs.Common.{◌≡◌, ◌≤◌, length, sym, ◌∙◌, rules}
 use Rattle.smithy_shapes.specs.Site.{site_of}
-use Rattle.smithy_schema.specs.Spans.{text_bytes, IsTextPlaced, IsTextBetween, NamesText}
+use Rattle.smithy_schema.specs.Spans.{text_bytes, IsTextPlaced, IsTextBetween, NamesTextPlace}
 use Rattle.smithy_json_codec.specs.Cursor.{cursor_of, reading_settings_of}
 use Rattle.smithy_json_values.specs.Borrowed.{BorrowsText, LiesEscaped}
 use Rattle.smithy_json_values.specs.Standing.{json_grammar}
@@ -46,7 +46,7 @@ returns-clause-borrowed c =
     let taken = rw same at c.take_found-answer.ensures.taken in
     let old = cursor_of c.args.self.now in
     rw c.told.ensures
-    (if_told _ c.take_found-answer.result _ (takes_so (λ x. BorrowsText (json_grammar (reading_settings_of c.args.self.now)) old.input old.at (NamesText x)) old _ c.text_span_at-found.result c.take_found-answer.result found.borrowed taken))
+    (if_told _ c.take_found-answer.result _ (takes_so (λ x. BorrowsText (json_grammar (reading_settings_of c.args.self.now)) old.input old.at (NamesTextPlace x)) old _ c.text_span_at-found.result c.take_found-answer.result found.borrowed taken))
 
 pub returns-clause-memory : goal.returns-clause-memory
 returns-clause-memory c = λ is.
