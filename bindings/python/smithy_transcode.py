@@ -17,8 +17,27 @@ import threading
 from dataclasses import dataclass
 from typing import Iterable, Union
 
-__all__ = ["CBOR", "CBOR_DEFINITE", "JSON", "JSON_INTEGRAL", "JSON_NAME", "JSON_NAME_INTEGRAL", "InvalidInput", "NotCarried", "NotExpressible", "NoSuchShape", "NotAStructure", "Query",
-           "Refused", "Table", "TableRefused", "TooDeep", "TooWide", "Transcoder"]
+__all__ = [
+    "CBOR",
+    "CBOR_DEFINITE",
+    "InvalidInput",
+    "JSON",
+    "JSON_INTEGRAL",
+    "JSON_NAME",
+    "JSON_NAME_INTEGRAL",
+    "NoSuchShape",
+    "NotAStructure",
+    "NotCarried",
+    "NotExpressible",
+    "Query",
+    "Refused",
+    "Table",
+    "TableRefused",
+    "TooDeep",
+    "TooWide",
+    "Transcoder",
+    "Wire",
+]
 
 
 @dataclass(frozen=True)
@@ -125,9 +144,18 @@ class _Handle(ctypes.Structure):
     _fields_ = [("pointer", ctypes.c_void_p)]
 
 
+def _path() -> str:
+    """The file that SMITHY_TRANSCODE_LIBRARY names, else the one beside this module, else the one that ./build leaves."""
+    named = os.environ.get("SMITHY_TRANSCODE_LIBRARY")
+    if named:
+        return named
+    folder = pathlib.Path(__file__).resolve().parent
+    beside = folder / "libsmithy_transcode.so"
+    return str(beside if beside.exists() else folder.parent.parent / beside.name)
+
+
 def _library() -> ctypes.CDLL:
-    path = os.environ.get("SMITHY_TRANSCODE_LIBRARY") or pathlib.Path(__file__).with_name("libsmithy_transcode.so")
-    library = ctypes.CDLL(str(path))
+    library = ctypes.CDLL(_path())
     size, text, handle = ctypes.c_size_t, ctypes.c_char_p, ctypes.POINTER(_Handle)
     library.smithy_transcode_accept.argtypes = [text, size, handle]
     library.smithy_transcode_accept.restype = ctypes.c_uint8
@@ -243,6 +271,8 @@ class Transcoder:
             handle = table._handle
             if not handle.pointer:
                 raise ValueError("the table is closed")
+            if len(self._room) < len(whole):
+                self._room = ctypes.create_string_buffer(len(whole))
             while True:
                 room = self._room
                 status = _LIBRARY.smithy_transcode_bodies(handle, self._back, *self._asked, ends, count, whole, len(whole), room, len(room),
