@@ -8,7 +8,10 @@ fn main() {
         None => PathBuf::from(env::var_os("CARGO_MANIFEST_DIR").unwrap()).join("../.."),
     };
     println!("cargo:rerun-if-env-changed=SMITHY_TRANSCODE_DIR");
-    println!("cargo:rerun-if-changed={}", folder.join("libsmithy_transcode.a").display());
+    println!(
+        "cargo:rerun-if-changed={}",
+        folder.join("libsmithy_transcode.a").display()
+    );
     println!("cargo:rustc-link-search=native={}", folder.display());
     println!("cargo:rustc-link-lib=static=smithy_transcode");
 }

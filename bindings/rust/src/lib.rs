@@ -10,16 +10,6 @@ use std::ptr;
 #[derive(Clone, Copy, Debug)]
 struct Handle(*mut u8);
 
-// What many bodies are given, and what they come to.
-#[derive(Default)]
-struct Batch {
-    ends: Vec<usize>,
-    input: Vec<u8>,
-    out: Vec<u8>,
-    out_ends: Vec<usize>,
-    statuses: Vec<u8>,
-}
-
 extern "C" {
     fn smithy_transcode_accept(text: *const u8, text_len: usize, place: *mut Handle) -> u8;
     fn smithy_transcode_free(table: Handle);
@@ -183,6 +173,35 @@ impl Error for Refusal {}
 // The answer of a call whose room is too short.
 const NO_ROOM: u8 = 24;
 
+// What many bodies are given, and what they come to.
+#[derive(Default)]
+struct Batch {
+    ends: Vec<usize>,
+    input: Vec<u8>,
+    out: Vec<u8>,
+    out_ends: Vec<usize>,
+    statuses: Vec<u8>,
+}
+
+impl Batch {
+    // At most so many bodies go to one call.
+    const MOST: usize = 512;
+
+    fn fill(&mut self, bodies: &[&[u8]]) {
+        self.ends.clear();
+        self.input.clear();
+        for body in bodies.iter().take(Batch::MOST) {
+            self.input.extend_from_slice(body);
+            self.ends.push(self.input.len());
+        }
+        self.out_ends.resize(self.ends.len(), 0);
+        self.statuses.resize(self.ends.len(), 0);
+        if self.out.len() < self.input.len() {
+            self.out.resize(self.input.len(), 0);
+        }
+    }
+}
+
 /// An accepted table of shapes.
 #[derive(Debug)]
 pub struct Table(Handle);
@@ -203,13 +222,21 @@ impl Table {
 
     /// Puts into `out`, in place of what it has, the canonical body in the wire `to` of the value of the root that `input` spells in the
     /// wire `from`. Where there is none, `out` is empty.
-    pub fn transcode(&mut self, root: &str, from: Source, input: &[u8], to: Target<'_>, out: &mut Vec<u8>) -> Result<(), Refusal> {
+    pub fn transcode(
+        &mut self,
+        root: &str,
+        from: Source,
+        input: &[u8],
+        to: Target<'_>,
+        out: &mut Vec<u8>,
+    ) -> Result<(), Refusal> {
         let (to, action, version) = to.numbered();
-        out.clear();
-        out.reserve(input.len().max(64));
+        // The library is proved over memory that holds bytes, so room that is added is filled.
+        let room = input.len().max(64);
+        if out.len() < room {
+            out.resize(room, 0);
+        }
         loop {
-            // The library is proved over memory that holds bytes, so the room is filled.
-            out.resize(out.capacity(), 0);
             let mut body_len = 0;
             // SAFETY: each slice is memory that may be read, `out` is borrowed alone, and `&mut self` makes this the table's one call.
             let status = unsafe {
@@ -236,7 +263,7 @@ impl Table {
                     out.truncate(body_len);
                     return Ok(());
                 }
-                NO_ROOM => out.reserve(body_len - out.len()),
+                NO_ROOM => out.resize(body_len, 0),
                 status => {
                     out.clear();
                     return Err(Refusal::of_status(status));
@@ -244,12 +271,17 @@ impl Table {
             }
         }
     }
-}
 
-impl Table {
     /// Transcodes bodies of one root, and hands on what each becomes, in their order: its body, or why there is none. An error says why
     /// there is nothing to transcode, or no memory for it.
-    pub fn transcode_all<F: FnMut(Result<&[u8], Refusal>)>(&mut self, root: &str, from: Source, bodies: &[&[u8]], to: Target<'_>, mut each: F) -> Result<(), Refusal> {
+    pub fn transcode_all<F: FnMut(Result<&[u8], Refusal>)>(
+        &mut self,
+        root: &str,
+        from: Source,
+        bodies: &[&[u8]],
+        to: Target<'_>,
+        mut each: F,
+    ) -> Result<(), Refusal> {
         let mut batch = Batch::default();
         let mut left = bodies;
         while !left.is_empty() {
@@ -257,7 +289,11 @@ impl Table {
             let done = self.transcode_batch(root, from, to, &mut batch)?;
             let mut at = 0;
             for (&end, &status) in batch.out_ends.iter().zip(&batch.statuses).take(done) {
-                each(if status == 0 { Ok(&batch.out[at..end]) } else { Err(Refusal::of_status(status)) });
+                each(if status == 0 {
+                    Ok(&batch.out[at..end])
+                } else {
+                    Err(Refusal::of_status(status))
+                });
                 at = end;
             }
             left = &left[done..];
@@ -266,7 +302,13 @@ impl Table {
     }
 
     // How many of a batch, one at least, were done.
-    fn transcode_batch(&mut self, root: &str, from: Source, to: Target<'_>, batch: &mut Batch) -> Result<usize, Refusal> {
+    fn transcode_batch(
+        &mut self,
+        root: &str,
+        from: Source,
+        to: Target<'_>,
+        batch: &mut Batch,
+    ) -> Result<usize, Refusal> {
         let (to, action, version) = to.numbered();
         loop {
             let mut done = 0;
@@ -303,25 +345,6 @@ impl Table {
                 NO_ROOM => batch.out.resize(2 * batch.out.len() + 64, 0),
                 status => return Err(Refusal::of_status(status)),
             }
-        }
-    }
-}
-
-impl Batch {
-    // At most so many bodies go to one call.
-    const MOST: usize = 512;
-
-    fn fill(&mut self, bodies: &[&[u8]]) {
-        self.ends.clear();
-        self.input.clear();
-        for body in bodies.iter().take(Batch::MOST) {
-            self.input.extend_from_slice(body);
-            self.ends.push(self.input.len());
-        }
-        self.out_ends.resize(self.ends.len(), 0);
-        self.statuses.resize(self.ends.len(), 0);
-        if self.out.len() < self.input.len() {
-            self.out.resize(self.input.len(), 0);
         }
     }
 }
