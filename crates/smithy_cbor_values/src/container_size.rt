@@ -15,7 +15,7 @@ fn size_within(declared: Option<u64>, most: usize) -> Option<usize>
     Some(capped_container_size(declared.min(most as u64) as usize))
 }
 
-// The size of the array or map of definite length that begins at the offset.
+/// The size of the array or map of definite length that begins at the offset.
 pub fn container_size_at(input: &[u8], at: usize) -> Option<usize>
     requires { at ≤ length input.now }
     ensures { cbor_sizes input.now at result }

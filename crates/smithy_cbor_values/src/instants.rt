@@ -25,7 +25,7 @@ fn instant_of(seconds: Option<i128>) -> Found<DateTime>
     }
 }
 
-// The instant at the offset, with its end, where a value may end there.
+/// The instant at the offset, with its end, where a value may end there.
 pub fn instant_at(input: &[u8], at: usize, depth: usize) -> Found<(DateTime, usize)>
     requires { at ≤ length input.now }
     ensures { MatchFound result (λ r. MeansAt scalars.Timestamp input.now at depth (instant r.0) r.1)

@@ -40,7 +40,7 @@ fn unread_number<T>(
     }
 }
 
-// The big integer at the offset, with its end, where a value may end there.
+/// The big integer at the offset, with its end, where a value may end there.
 pub fn big_integer_at(
     alloc: Global,
     input: &[u8],
@@ -65,7 +65,7 @@ pub fn big_integer_at(
     }
 }
 
-// The big decimal at the offset, with its end, where a value may end there.
+/// The big decimal at the offset, with its end, where a value may end there.
 pub fn big_decimal_at(
     alloc: Global,
     input: &[u8],

@@ -15,23 +15,25 @@ const NULL_BYTE: u8 = 0xf6;
 // What ends a container of indefinite length.
 const BREAK: u8 = 0xff;
 
-// Where a container begins: how many entries its head announces, unless it is of indefinite length,
-// and where its inside begins.
+/// Where a container begins.
 #[derive(Clone, Copy)]
 pub struct Opening {
+    /// How many elements or entries its head announces, unless it is of indefinite length.
     pub due: Option<u64>,
+    /// The offset behind its head.
     pub inside: usize,
 }
 
-// What comes next in a container: an entry, behind which so many are due, or the end, with the offset
-// behind it.
+/// What comes next in a container.
 #[derive(Clone, Copy)]
 pub enum EntryOrEnd {
+    /// An element or an entry, with how many are due behind it where the length is definite.
     Entry(Option<u64>),
+    /// The end, and this is the offset behind it.
     End(usize),
 }
 
-// A decoder that begins at the offset.
+/// A decoder that begins at the offset.
 pub fn decoder_at<'b>(input: &'b [u8], at: usize) -> Decoder<'b>
     requires { at ≤ length input.now }
     ensures input { input_of result ≡ input.now }
@@ -42,7 +44,7 @@ pub fn decoder_at<'b>(input: &'b [u8], at: usize) -> Decoder<'b>
     decoder
 }
 
-// The head of an array that begins at the offset.
+/// The head of an array that begins at the offset.
 pub fn array_at(input: &[u8], at: usize) -> Option<Opening>
     requires { at ≤ length input.now }
     ensures found { IfSome result (λ o. OpensAt 4 o.due input.now at o.inside) }
@@ -56,7 +58,7 @@ pub fn array_at(input: &[u8], at: usize) -> Option<Opening>
     })
 }
 
-// The head of a map that begins at the offset.
+/// The head of a map that begins at the offset.
 pub fn map_at(input: &[u8], at: usize) -> Option<Opening>
     requires { at ≤ length input.now }
     ensures found { IfSome result (λ o. OpensAt 5 o.due input.now at o.inside) }
@@ -70,14 +72,14 @@ pub fn map_at(input: &[u8], at: usize) -> Option<Opening>
     })
 }
 
-// Whether what stands inside so many containers may end at the offset.
+/// Whether what stands inside so many containers may end at the offset.
 pub fn may_end(input: &[u8], at: usize, depth: usize) -> bool
     ensures { IsTrue result ↔ Follows depth input.now at }
 {
     depth > 0 || at == input.len()
 }
 
-// Whether the innermost of `depth` open containers may end at the offset. Strictly, the only one ends where the input does.
+/// Whether the innermost of `depth` open containers may end at the offset. Strictly, the only one ends where the input does.
 pub fn may_leave(input: &[u8], at: usize, depth: usize, strict: bool) -> bool
     ensures { IsTrue result ↔ FollowsInside strict depth input.now at }
 {
@@ -88,7 +90,7 @@ pub fn may_leave(input: &[u8], at: usize, depth: usize, strict: bool) -> bool
     }
 }
 
-// Whether a null comes first.
+/// Whether a null comes first.
 pub fn is_null_at(input: &[u8], at: usize) -> bool
     requires { at ≤ length input.now }
     ensures { result ≡ begins_with null_byte (drop at input.now) }
@@ -96,7 +98,7 @@ pub fn is_null_at(input: &[u8], at: usize) -> bool
     at < input.len() && input[at] == NULL_BYTE
 }
 
-// The end of the null at the offset, where a value may end there.
+/// The end of the null at the offset, where a value may end there.
 pub fn null_end(input: &[u8], at: usize, depth: usize) -> Option<usize>
     requires { at ≤ length input.now }
     ensures found { IfSome result (IsNullAt input.now at depth) }
@@ -108,7 +110,7 @@ pub fn null_end(input: &[u8], at: usize, depth: usize) -> Option<usize>
     None
 }
 
-// What comes next in the container inside of which the offset lies: another entry, with how many are due behind it, or the end.
+/// What comes next in the container inside of which the offset lies: another entry, with how many are due behind it, or the end.
 pub fn entry_or_end(input: &[u8], at: usize, due: Option<u64>) -> Option<EntryOrEnd>
     requires { at ≤ length input.now }
     ensures { IsEntryOrEnd input.now at due result }

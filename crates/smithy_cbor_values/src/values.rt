@@ -16,7 +16,7 @@ use smithy_types::Blob;
 use std::alloc::{AllocError, Global};
 use std::borrow::{CowSlice, CowStr};
 
-// The boolean at the offset, with its end, where a value may end there.
+/// The boolean at the offset, with its end, where a value may end there.
 pub fn boolean_at(input: &[u8], at: usize, depth: usize) -> Option<(bool, usize)>
     requires { at ≤ length input.now }
     ensures found { IfSome result (λ r. IsAt (boolean_item r.0) input.now at depth r.1) }
@@ -32,7 +32,7 @@ pub fn boolean_at(input: &[u8], at: usize, depth: usize) -> Option<(bool, usize)
     }
 }
 
-// The integer of 64 bits at the offset, with its end, where a value may end there.
+/// The integer of 64 bits at the offset, with its end, where a value may end there.
 pub fn long_at(input: &[u8], at: usize, depth: usize) -> Option<(i64, usize)>
     requires { at ≤ length input.now }
     ensures found { IfSome result (λ r. IsWholeAt 64 r.0 input.now at depth r.1) }
@@ -48,7 +48,7 @@ pub fn long_at(input: &[u8], at: usize, depth: usize) -> Option<(i64, usize)>
     }
 }
 
-// The text at the offset, with its end. It is borrowed where it stands in one piece.
+/// The text at the offset, with its end. It is borrowed where it stands in one piece.
 pub fn text_at<'a>(
     alloc: Global,
     input: &'a [u8],
@@ -68,7 +68,7 @@ pub fn text_at<'a>(
     }
 }
 
-// The text at the offset, with its end, where a value may end there. It is borrowed where it stands in one piece.
+/// The text at the offset, with its end, where a value may end there. It is borrowed where it stands in one piece.
 pub fn text_piece_at<'a>(
     alloc: Global,
     input: &'a [u8],
@@ -90,7 +90,7 @@ pub fn text_piece_at<'a>(
     Ok(Some((text, end)))
 }
 
-// The text of the string at the offset, in memory of its own, with the string's end, where a value may end there.
+/// The text of the string at the offset, in memory of its own, with the string's end, where a value may end there.
 pub fn string_at(
     alloc: Global,
     input: &[u8],
@@ -130,7 +130,7 @@ fn cow_holds_bytes(bytes: &CowSlice<'_, u8, Global>)
     holds_bytes(bytes.as_slice());
 }
 
-// The bytes at the offset, with their end, where a value may end there. They are borrowed where they stand in one piece.
+/// The bytes at the offset, with their end, where a value may end there. They are borrowed where they stand in one piece.
 pub fn bytes_piece_at<'a>(
     alloc: Global,
     input: &'a [u8],
@@ -157,7 +157,7 @@ pub fn bytes_piece_at<'a>(
     }
 }
 
-// The bytes at the offset, in memory of their own, with their end, where a value may end there.
+/// The bytes at the offset, in memory of their own, with their end, where a value may end there.
 pub fn blob_at(
     alloc: Global,
     input: &[u8],
@@ -174,7 +174,7 @@ pub fn blob_at(
     Ok(Some((blob, end)))
 }
 
-// The end of the item at the offset, where a value may end there.
+/// The end of the item at the offset, where a value may end there.
 pub fn skipped_end(
     alloc: Global,
     input: &[u8],
@@ -198,7 +198,7 @@ pub fn skipped_end(
     }
 }
 
-// Whether an item stands at the offset, where a value may end behind it.
+/// Whether an item stands at the offset, where a value may end behind it.
 pub fn item_stands(alloc: Global, input: &[u8], at: usize, depth: usize) -> Result<bool, AllocError>
     requires { at ≤ length input.now }
     ensures { IfOk result (λ stands. MatchBool stands ((e : ℕ) × SkipsTo input.now at depth e) ((e : ℕ) → SkipsTo input.now at depth e → ⊥)) }

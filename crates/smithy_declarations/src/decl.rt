@@ -45,6 +45,7 @@ impl Decl {
     ghost use Rattle.smithy_declarations.specs.DeclViews.{decl_of, member_decl_of};
     ghost use Rattle.smithy_declarations.specs.Acceptance.{members_of};
 
+    /// The name of the shape.
     pub fn name(&self) -> &str
         ensures { result.now ≡ (decl_of self.now).name }
     {
@@ -56,7 +57,7 @@ impl Decl {
         }
     }
 
-    // The members of a structure or a union.
+    /// The members of a structure or a union. A list or a map has none.
     pub fn members(&self) -> &[MemberDecl]
         ensures { map member_decl_of result.now ≡ members_of (decl_of self.now).form }
     {

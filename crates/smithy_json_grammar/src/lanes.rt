@@ -114,7 +114,7 @@ fn end_in_many<const CONTROLS: bool, const ASCII: bool>(input: &[u8], at: usize)
     }
 }
 
-// Where the run ends. As most strings are short, the first 16 bytes come alone.
+/// Where the run ends. As most strings are short, the first 16 bytes come alone.
 #[inline(always)]
 pub fn run_end<const CONTROLS: bool, const ASCII: bool>(input: &[u8], at: usize) -> usize
     requires { at ≤ length input.now }

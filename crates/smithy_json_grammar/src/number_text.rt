@@ -19,7 +19,7 @@ pub struct ScannedNumber {
     pub is_whole: bool,
 }
 
-// The byte at the offset, and 0 at the input's end.
+/// The byte at the offset, and 0 at the input's end.
 #[inline(always)]
 pub fn byte_at(input: &[u8], at: usize) -> u8
     requires { at ≤ length input.now }
@@ -28,7 +28,7 @@ pub fn byte_at(input: &[u8], at: usize) -> u8
     if at < input.len() { input[at] } else { 0 }
 }
 
-// Where the digits end that come at the offset.
+/// Where the digits end that come at the offset.
 #[inline(always)]
 pub fn digit_run_end(input: &[u8], at: usize) -> usize
     requires { at ≤ length input.now }
@@ -176,8 +176,8 @@ pub fn is_number(text: &[u8]) -> bool
     is_number_alone(text)
 }
 
-// The number of the digits that come at the offset, with their end. There is none where no digit
-// comes, or where they write 2^64 or more.
+/// The number of the digits that come at the offset, with their end. There is none where no digit
+/// comes, or where they write 2^64 or more.
 #[inline(always)]
 pub fn read_natural(input: &[u8], at: usize) -> Option<(u64, usize)>
     requires { at ≤ length input.now }
@@ -202,7 +202,7 @@ fn is_int_between(input: &[u8], start: usize, end: usize) -> bool
     input[start] != b'0' || end <= start + 1
 }
 
-// The number with this magnitude, where it is one of 64 bits.
+/// The number with this magnitude, where it is one of 64 bits.
 #[inline(always)]
 pub fn signed(is_negative: bool, magnitude: u64) -> Option<i64>
     ensures { result ≡ long_of is_negative magnitude }

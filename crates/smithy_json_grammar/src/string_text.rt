@@ -23,6 +23,7 @@ pub struct ScannedString<'a> {
     pub has_escape: bool,
 }
 
+/// Whether four hexadecimal digits come first.
 pub fn begins_with_four_hex_digits(input: &[u8]) -> bool
     ensures { result ≡ begins_with_four_hex_digits input.now }
 {
@@ -37,6 +38,7 @@ pub fn begins_with_four_hex_digits(input: &[u8]) -> bool
     }
 }
 
+/// Whether a backslash and this byte are an escape by themselves (RFC 8259, section 7).
 pub fn is_short_escape(letter: u8) -> bool
     ensures { result ≡ is_short_escape letter }
 {

@@ -14,6 +14,7 @@ use smithy_json_grammar::scan::skip_blanks;
 use smithy_json_settings::Settings;
 use smithy_schema::{Scalar, SerdeError, TimestampFormat};
 
+/// Whether `true` comes first.
 pub fn begins_with_true(bytes: &[u8]) -> bool
     ensures { result ≡ begins_with_true bytes.now }
 {
@@ -23,6 +24,7 @@ pub fn begins_with_true(bytes: &[u8]) -> bool
     }
 }
 
+/// Whether `false` comes first.
 pub fn begins_with_false(bytes: &[u8]) -> bool
     ensures { result ≡ begins_with_false bytes.now }
 {
@@ -41,6 +43,7 @@ fn begins_as_string(bytes: &[u8]) -> bool
     }
 }
 
+/// Whether a minus or a digit comes first.
 pub fn begins_as_number(bytes: &[u8]) -> bool
     ensures { result ≡ begins_as_number bytes.now }
 {
@@ -147,7 +150,7 @@ fn told_refusal(
     }
 }
 
-// The answer of a read of a scalar at the offset, as it is told. What was read passes through.
+/// The answer of a read of a scalar at the offset, as it is told. What was read passes through.
 #[inline(always)]
 pub fn told<T: Drop>(
     answer: Result<T, SerdeError>,
@@ -166,8 +169,8 @@ pub fn told<T: Drop>(
     }
 }
 
-// The refusal where no object begins at the offset, and a structure or a union is due: where nothing comes, a structure isn't
-// refused by its type.
+/// The refusal where no object begins at the offset, and a structure or a union is due: where nothing comes, a structure isn't
+/// refused by its type.
 pub fn no_object(input: &[u8], at: usize, is_structure: bool) -> SerdeError
     requires { at ≤ length input.now }
     ensures told { TellsType (if is_structure then begins_by (λ b. true) (without_ws (drop at input.now)) else true) result }

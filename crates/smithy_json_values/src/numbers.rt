@@ -82,7 +82,7 @@ fn big_decimal_of(alloc: Global, text: &str) -> Result<Found<BigDecimal>, AllocE
     }
 }
 
-// The whole number that comes first behind blanks as a big integer is read, with its end.
+/// The whole number that comes first behind blanks as a big integer is read, with its end.
 pub fn big_integer_at(
     alloc: Global,
     input: &[u8],
@@ -105,7 +105,7 @@ pub fn big_integer_at(
     }
 }
 
-// The decimal number that comes first behind blanks as a big decimal is read, with its end.
+/// The decimal number that comes first behind blanks as a big decimal is read, with its end.
 pub fn big_decimal_at(
     alloc: Global,
     input: &[u8],

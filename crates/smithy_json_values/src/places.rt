@@ -30,21 +30,25 @@ pub struct Name<'a> {
     pub end: usize,
 }
 
-/// How a list goes on: with an element from an offset on, or with its end.
+/// How a list goes on, or an object whose next name isn't read yet.
 #[derive(Clone, Copy)]
 pub enum InList {
+    /// With an element or a name, which comes from this offset on.
     Element(usize),
+    /// With its end, and this is the offset behind it.
     End(usize),
 }
 
-/// How an object goes on: with a member, or with its end.
+/// How an object goes on.
 #[derive(Clone, Copy)]
 pub enum InObject<'a> {
+    /// With a member of this name.
     Member(Name<'a>),
+    /// With its end, and this is the offset behind it.
     End(usize),
 }
 
-// The first byte from the offset on that is no blank, with its offset.
+/// The first byte from the offset on that is no blank, with its offset.
 #[inline(always)]
 pub fn first_byte(input: &[u8], at: usize) -> Option<(u8, usize)>
     requires { at ≤ length input.now }
@@ -59,7 +63,7 @@ pub fn first_byte(input: &[u8], at: usize) -> Option<(u8, usize)>
     }
 }
 
-// The offset behind this byte, where it comes first behind blanks.
+/// The offset behind this byte, where it comes first behind blanks.
 #[inline(always)]
 pub fn byte_end(input: &[u8], at: usize, byte: u8) -> Option<usize>
     requires within { at ≤ length input.now }
@@ -74,7 +78,7 @@ pub fn byte_end(input: &[u8], at: usize, byte: u8) -> Option<usize>
     }
 }
 
-// The end of a null.
+/// The end of a null.
 #[inline(always)]
 pub fn null_end(input: &[u8], at: usize, settings: &Settings) -> Option<usize>
     requires { at ≤ length input.now }
@@ -88,7 +92,7 @@ pub fn null_end(input: &[u8], at: usize, settings: &Settings) -> Option<usize>
     may_follow(input, start + 4, settings).then_some(start + 4)
 }
 
-// Whether the innermost of `depth` open containers may end at the offset. Behind the only one nothing but blanks may follow.
+/// Whether the innermost of `depth` open containers may end at the offset. Behind the only one nothing but blanks may follow.
 #[inline(always)]
 pub fn may_end(input: &[u8], at: usize, depth: usize, settings: &Settings) -> bool
     requires { at ≤ length input.now }
@@ -101,8 +105,8 @@ pub fn may_end(input: &[u8], at: usize, depth: usize, settings: &Settings) -> bo
     }
 }
 
-// Whether the input is over at the offset, so that a structure may be missing there: strictly the whole input is empty, and else
-// nothing but blanks is left.
+/// Whether the input is over at the offset, so that a structure may be missing there: strictly the whole input is empty, and else
+/// nothing but blanks is left.
 #[inline(always)]
 pub fn is_over(input: &[u8], at: usize, settings: &Settings) -> bool
     requires { at ≤ length input.now }
@@ -115,7 +119,7 @@ pub fn is_over(input: &[u8], at: usize, settings: &Settings) -> bool
     }
 }
 
-// What comes next in the list inside of which the offset lies: an element, or the end of the list.
+/// What comes next in the list inside of which the offset lies: an element, or the end of the list.
 #[inline(always)]
 pub fn next_in_list(
     input: &[u8],
@@ -149,7 +153,7 @@ pub fn next_in_list(
     }
 }
 
-// Where the name of a member is due in the object inside of which the offset lies, or the end of the object.
+/// Where the name of a member is due in the object inside of which the offset lies, or the end of the object.
 #[inline(always)]
 pub fn next_name_place(
     input: &[u8],
@@ -195,7 +199,7 @@ fn name_at<'a>(input: &'a [u8], at: usize, settings: &Settings) -> Option<Name<'
     })
 }
 
-// What comes next in the object inside of which the offset lies: a member's name with its colon, or the end of the object.
+/// What comes next in the object inside of which the offset lies: a member's name with its colon, or the end of the object.
 #[inline(always)]
 pub fn next_in_object<'a>(
     input: &'a [u8],

@@ -213,8 +213,8 @@ fn next_step(
     }
 }
 
-// The end of the value that lies at the offset inside so many containers, of whatever kind. No
-// more containers may be open at once than the settings say.
+/// The end of the value that lies at the offset inside so many containers, of whatever kind. No
+/// more containers may be open at once than the settings say.
 pub fn skipped_end(input: Input<'_>, at: usize, depth: usize) -> Result<usize, SkipFault>
     requires within { at ≤ length input.bytes.now }
     requires shallow { depth ≤ input.settings.max_depth }

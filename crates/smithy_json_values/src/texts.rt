@@ -18,7 +18,7 @@ use smithy_types::base64::{DecodeError, decode};
 use std::alloc::{AllocError, Global};
 use std::borrow::{CowSlice, CowStr};
 
-// The text of a string, if its escapes are sound, which is borrowed where it has none.
+/// The text of a string, if its escapes are sound, which is borrowed where it has none.
 #[inline(always)]
 pub fn text_of<'a>(
     alloc: Global,
@@ -50,7 +50,7 @@ fn unescaped_text<'a>(alloc: Global, raw: &'a str) -> Result<Option<CowStr<'a, G
     }
 }
 
-// The text of a raw string, if its escapes are sound, in memory of its own.
+/// The text of a raw string, if its escapes are sound, in memory of its own.
 #[inline(always)]
 pub fn owned_text(alloc: Global, raw: &str, is_escaped: bool) -> Result<Option<String>, AllocError>
     requires { is_escaped ≡ has_escape raw.now }
@@ -62,8 +62,8 @@ pub fn owned_text(alloc: Global, raw: &str, is_escaped: bool) -> Result<Option<S
     Ok(Some(text.into_owned(alloc)?))
 }
 
-// The text of the string that comes first behind blanks, with its end. It is borrowed where the
-// string has no escapes.
+/// The text of the string that comes first behind blanks, with its end. It is borrowed where the
+/// string has no escapes.
 #[inline(always)]
 pub fn text_piece_at<'a>(
     alloc: Global,
@@ -85,7 +85,7 @@ pub fn text_piece_at<'a>(
     Ok(Some((text, string.closing + 1)))
 }
 
-// The text of the string that comes first behind blanks, with its end, in memory of its own.
+/// The text of the string that comes first behind blanks, with its end, in memory of its own.
 #[inline(always)]
 pub fn text_at(
     alloc: Global,
@@ -102,7 +102,7 @@ pub fn text_at(
     Ok(Some((text.into_owned(alloc)?, end)))
 }
 
-// The text of a raw string that begins at the place, if its escapes are sound. Where it has none, it is named by the place.
+/// The text of a raw string that begins at the place, if its escapes are sound. Where it has none, it is named by the place.
 #[inline(always)]
 pub fn span_of(
     alloc: Global,
@@ -124,8 +124,8 @@ pub fn span_of(
     Ok(Some(TextSpan::Owned(text)))
 }
 
-// The text of the string that comes first behind blanks, with its end. It is named by its place where
-// the string has no escapes.
+/// The text of the string that comes first behind blanks, with its end. It is named by its place where
+/// the string has no escapes.
 #[inline(always)]
 pub fn text_span_at(
     alloc: Global,
@@ -172,7 +172,7 @@ fn blob_of(alloc: Global, raw: &str, is_escaped: bool) -> Result<Option<Blob>, A
     decoded(alloc, text.as_str())
 }
 
-// The bytes that the string encodes which comes first behind blanks, with its end.
+/// The bytes that the string encodes which comes first behind blanks, with its end.
 pub fn blob_at(
     alloc: Global,
     input: &[u8],
@@ -191,8 +191,8 @@ pub fn blob_at(
     Ok(Some((blob, string.closing + 1)))
 }
 
-// The bytes that the string encodes which comes first behind blanks, with its end. They stand in
-// memory of their own, in the type that a reader hands out which borrows.
+/// The bytes that the string encodes which comes first behind blanks, with its end. They stand in
+/// memory of their own, in the type that a reader hands out which borrows.
 pub fn bytes_piece_at<'a>(
     alloc: Global,
     input: &'a [u8],
@@ -209,8 +209,8 @@ pub fn bytes_piece_at<'a>(
     Ok(Some((CowSlice::Owned(blob.into_inner()), end)))
 }
 
-// The bytes that the string encodes which comes first behind blanks, with its end. They stand
-// nowhere in the input, as the string holds them as base64.
+/// The bytes that the string encodes which comes first behind blanks, with its end. They stand
+/// nowhere in the input, as the string holds them as base64.
 pub fn bytes_span_at(
     alloc: Global,
     input: &[u8],

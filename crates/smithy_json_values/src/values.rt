@@ -89,6 +89,7 @@ fn begins_with_alphanumeric(bytes: &[u8]) -> bool
     }
 }
 
+/// Whether `null` comes first, and no ASCII letter or digit behind it.
 pub fn begins_with_null(bytes: &[u8]) -> bool
     ensures { result ≡ begins_with_null bytes.now }
 {
@@ -100,7 +101,7 @@ pub fn begins_with_null(bytes: &[u8]) -> bool
     }
 }
 
-// Whether `null` comes first behind blanks, and no ASCII letter or digit behind it.
+/// Whether `null` comes first behind blanks, and no ASCII letter or digit behind it.
 pub fn begins_null(input: &[u8], at: usize) -> bool
     requires { at ≤ length input.now }
     ensures { result ≡ begins_with_null (without_ws (drop at input.now)) }

@@ -29,6 +29,7 @@ impl<'a> PlaceWords<'a> {
 pub struct Places<'a>(pub &'a Decl);
 
 impl<'a> Places<'a> {
+    /// How many places the declaration has: one for each member, or that of the elements or the values.
     pub fn count(&self) -> usize
         ensures { result ≡ length (places_of (decl_of self.now.0.now).form) }
     {
@@ -40,6 +41,7 @@ impl<'a> Places<'a> {
         }
     }
 
+    /// The words of the place at a position, from 0.
     pub fn at(&self, position: usize) -> PlaceWords<'a>
         requires { position < length (places_of (decl_of self.now.0.now).form) }
         ensures { place_words_of result ≡ slice_index_or (places_of (decl_of self.now.0.now).form) position (place_words_of result) }

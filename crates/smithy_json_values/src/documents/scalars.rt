@@ -20,11 +20,12 @@ use smithy_types::{Document, Number};
 use smithy_wire::Found;
 use std::alloc::{AllocError, Global};
 
-// How a value begins: as a scalar that is read, with its end, or as an object or an array, with the
-// offset of its inside.
+/// How a value begins.
 #[derive(Drop)]
 pub enum Begun {
+    /// As a scalar, which is read, with the offset behind it.
     Scalar(Document, usize),
+    /// As an object, or else as an array, with the offset of its inside.
     Container(bool, usize),
 }
 
