@@ -15,7 +15,7 @@ pub enum Status {
     Done,
     /// The words are no command.
     Usage,
-    /// The table or the input wasn't read.
+    /// The table, the input or a file of a body wasn't read.
     ReadFailed,
     /// The output wasn't written whole.
     WriteFailed,

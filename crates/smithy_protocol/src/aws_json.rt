@@ -152,8 +152,8 @@ impl AwsJsonRpcProtocol {
     }
 
     /// The request that has a structure as its body. The operation goes into the header `X-Amz-Target` where the configuration has
-    /// its name, and that of the service unless a prefix is set. An error is want of memory, or what a serializer of JSON answers for the
-    /// structure.
+    /// its name, and that of the service unless a prefix is set. The endpoint isn't looked at: the request goes to `/`. An error is want of
+    /// memory, or what a serializer of JSON answers for the structure.
     pub fn serialize_request<V: SerializableStruct>(
         &self,
         alloc: Global,

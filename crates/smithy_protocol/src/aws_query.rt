@@ -77,7 +77,8 @@ impl AwsQueryProtocol {
 
     /// The request that has the form of a structure as its body, with the operation of the configuration as its action, and the version
     /// that is set, else that of the configuration. Where the operation or both versions are absent, the answer is `Missing`. Else an
-    /// error is want of memory, or what a serializer of forms or the structure's own calls answer.
+    /// error is want of memory, or what a serializer of forms or the structure's own calls answer. The endpoint isn't looked at: the
+    /// request goes to `/`.
     pub fn serialize_request<V: SerializableStruct>(
         &self,
         alloc: Global,
