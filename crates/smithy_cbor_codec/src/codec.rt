@@ -55,7 +55,7 @@ impl Default for CborCodec {
     ghost use Rattle.smithy_cbor_body.specs.Codec.{default_settings};
     ghost use Rattle.smithy_cbor_codec.specs.Serializing.{settings_of};
 
-    /// A codec of the settings that are asked for nothing.
+    /// A codec under the default settings, which reads what strict settings refuse.
     fn default() -> CborCodec
         ensures { settings_of result ≡ default_settings }
     {

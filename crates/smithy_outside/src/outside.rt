@@ -49,7 +49,8 @@ pub trait Files {
     /// What each path tells.
     ghost told: { Self → List ℕ → Shown };
 
-    /// The whole content of the path. A path where no file is fails, and is counted.
+    /// The whole content of the path, where it has at most `limit` bytes: `TooLong` where it has more. A path where no file is fails, and
+    /// is counted.
     fn load(&mut self, alloc: Global, path: &str, limit: usize) -> Result<Vec<u8>, LoadFault>
         ensures loaded { IfOk result (λ bytes. IsWhole bytes.items (told self.old path.now)) }
         ensures within { IfOk result (λ bytes. length bytes.items ≤ limit) }

@@ -56,7 +56,7 @@ pub trait ShapeDeserializer {
     /// What the reader takes memory from.
     fn allocator(&self) -> Global;
 
-    /// The position.
+    /// The offset at which the reader stands, in bytes from 0.
     fn position(&self) -> usize
         ensures at { result ≡ (state self.now).at }
         ensures within { result ≤ length (state self.now).input };

@@ -74,19 +74,19 @@ pub trait ShapeSerializer {
     fn write_boolean(&mut self, schema: &Schema<'_>, value: bool) -> Result<(), SerdeError>
         ensures { WritesEvent after (scalar_of (site_of schema.now) (boolean value)) (state self.old) (failed self.old) (state self.new) (failed self.new) result };
 
-    /// Writes a whole number.
+    /// Writes a whole number from -2^7 to 2^7-1.
     fn write_byte(&mut self, schema: &Schema<'_>, value: i8) -> Result<(), SerdeError>
         ensures { WritesEvent after (scalar_of (site_of schema.now) (whole value)) (state self.old) (failed self.old) (state self.new) (failed self.new) result };
 
-    /// Writes a whole number.
+    /// Writes a whole number from -2^15 to 2^15-1.
     fn write_short(&mut self, schema: &Schema<'_>, value: i16) -> Result<(), SerdeError>
         ensures { WritesEvent after (scalar_of (site_of schema.now) (whole value)) (state self.old) (failed self.old) (state self.new) (failed self.new) result };
 
-    /// Writes a whole number.
+    /// Writes a whole number from -2^31 to 2^31-1.
     fn write_integer(&mut self, schema: &Schema<'_>, value: i32) -> Result<(), SerdeError>
         ensures { WritesEvent after (scalar_of (site_of schema.now) (whole value)) (state self.old) (failed self.old) (state self.new) (failed self.new) result };
 
-    /// Writes a whole number.
+    /// Writes a whole number from -2^63 to 2^63-1.
     fn write_long(&mut self, schema: &Schema<'_>, value: i64) -> Result<(), SerdeError>
         ensures { WritesEvent after (scalar_of (site_of schema.now) (whole value)) (state self.old) (failed self.old) (state self.new) (failed self.new) result };
 

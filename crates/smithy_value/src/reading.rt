@@ -13,8 +13,9 @@ use crate::value_trees::ValueTrees;
 use smithy_schema::{BorrowDeserializer, PieceDeserializer, Schema, SerdeError, ShapeType, Step};
 use std::alloc::Global;
 
-/// Reads the value of the schema that is due, whatever the wire. Its texts and bytes borrow from the input of the reader, which they
-/// may outlive.
+/// Reads the value of the schema that is due, whatever the wire. Its texts and bytes borrow from the input of the reader, where they stand
+/// in it in one piece, and may outlive the reader. An error is the reader's own, or `InvalidInput` of a union of no member or of several.
+/// The reader has failed then, but where memory was wanting for what was read.
 pub fn read_value<'a, D: BorrowDeserializer<'a>>(
     alloc: Global,
     source: &mut D,
