@@ -1,6 +1,7 @@
 -- Lines, words and options, as the program goes through them.
 use Rattle.std.proofs.Common.{◌≡◌, ℕ, ◌+◌, ◌<◌, ◌≤◌, List, [], ◌∷◌, ◌++◌, map, length, take, drop, get_or, Bool, true, false, not, cond, ◌&&◌, ◌||◌, Option, Some, None, refl, sym, ap, ◌∙◌, arith, Bor, subst, suc}
 use Rattle.std.specs.List.{starts_with}
+use Rattle.std.specs.Str.{byte}
 use Rattle.std.specs.Str.Pattern.{FindsTextPrefix, StripsPrefix}
 use Rattle.std.proofs.lemmas.Str.Pattern.{starts_text}
 use Rattle.std.specs.Option.{option_map, option_map_or, option_and_then, is_some}
@@ -8,7 +9,8 @@ use Rattle.std.proofs.lemmas.List.{at_drop_more, at_drop_all, map-append, length
 use Rattle.std.proofs.lemmas.List.Sums.{sum_by-cons, fold-append}
 use Rattle.std.proofs.lemmas.List.Folds.{list_any-append, list_any_at}
 use Rattle.smithy_declarations.specs.Decl.{MemberDecl, Decl}
-use Rattle.smithy_declarations.specs.TableText.{text_of_option, given, first_given, words_of, space, is_empty, add_member, with_form, with_member, Lines, declarations, bad_line, line_of, line_said, after_line, after_numbered_line}
+use Rattle.smithy_declarations.specs.TableText.{text_of_option, given, first_given, words_of, is_empty, add_member, with_member, Lines, declarations, bad_line, line_of, line_said, after_line, after_numbered_line}
+use Rattle.smithy_declarations.specs.Private.PlaceTests.{with_form}
 use Rattle.std.specs.Str.{IsCharBoundary, IsUtf8, is_utf8}
 use Rattle.std.specs.Str.Lines.{strip_carriage_return}
 use Rattle.std.proofs.lemmas.Str.{IsUtf8-from_is_utf8, is_utf8-from_IsUtf8}
@@ -142,16 +144,16 @@ none_empty_push yielded w before here =
     ap (list_any is_empty) (map-append _ yielded (w ∷ [])) ∙ list_any-append is_empty (texts yielded) (w.now ∷ [])
     ∙ ap (λ b. b || (is_empty w.now || false)) before ∙ ap (λ b. b || false) here
 
-pub words_parted : (text : List ℕ) (ws : List (List ℕ)) → ws ≡ slice_split (λ b. b == space) text → list_any is_empty ws ≡ false → Some ws ≡ words_of text
+pub words_parted : (text : List ℕ) (ws : List (List ℕ)) → ws ≡ slice_split (λ b. b == byte " ") text → list_any is_empty ws ≡ false → Some ws ≡ words_of text
 words_parted text ws is filled =
-    let P : Bool → Type 0 = λ b. Some ws ≡ cond b None (Some (slice_split (λ b. b == space) text)) in
+    let P : Bool → Type 0 = λ b. Some ws ≡ cond b None (Some (slice_split (λ b. b == byte " ") text)) in
     subst P (sym filled ∙ ap (list_any is_empty) is) (ap Some is)
 
-pub empty_word : (text : List ℕ) (i : ℕ) (w : List ℕ) → i < length (slice_split (λ b. b == space) text) → w ≡ get_or (slice_split (λ b. b == space) text) i w
+pub empty_word : (text : List ℕ) (i : ℕ) (w : List ℕ) → i < length (slice_split (λ b. b == byte " ") text) → w ≡ get_or (slice_split (λ b. b == byte " ") text) i w
     → is_empty w ≡ true → None ≡ words_of text
 empty_word text i w within is empty =
-    let P : Bool → Type 0 = λ b. None ≡ cond b None (Some (slice_split (λ b. b == space) text)) in
-    subst P (sym (list_any_at is_empty (slice_split (λ b. b == space) text) i w within (ap is_empty (sym is) ∙ empty))) refl
+    let P : Bool → Type 0 = λ b. None ≡ cond b None (Some (slice_split (λ b. b == byte " ") text)) in
+    subst P (sym (list_any_at is_empty (slice_split (λ b. b == byte " ") text) i w within (ap is_empty (sym is) ∙ empty))) refl
 
 -- ---- lines
 

@@ -73,35 +73,22 @@ target_of decls name =
 
 -- the place that words name
 abbrev pub place_of : List Decl → PlaceWords → Place
-place_of decls p =
-    record { target = target_of decls p.target; time = option_and_then (named time_formats) p.time }
+place_of decls p = record { target = target_of decls p.target; time = option_and_then (named time_formats) p.time }
 
 -- a member of the table
 abbrev pub member_of : List Decl → MemberDecl → Member
-member_of decls m = record {
-  name = m.name;
-  json_name = m.json;
-  xml_name = m.xml;
-  is_flat = m.is_flat;
-  place = place_of decls (place_of_member m);
-}
+member_of decls m =
+    record { name = m.name; json_name = m.json; xml_name = m.xml; is_flat = m.is_flat; place = place_of decls (place_of_member m) }
 
 -- a list of the table
 abbrev pub list_shape_of : List Decl → ListDecl → ListShape
-list_shape_of decls l = record {
-  place = place_of decls (place_of_elements l);
-  is_sparse = l.is_sparse;
-  xml_name = l.xml;
-}
+list_shape_of decls l =
+    record { place = place_of decls (place_of_elements l); is_sparse = l.is_sparse; xml_name = l.xml }
 
 -- a map of the table
 abbrev pub map_shape_of : List Decl → MapDecl → MapShape
-map_shape_of decls m = record {
-  place = place_of decls (place_of_values m);
-  is_sparse = m.is_sparse;
-  key_name = m.key;
-  value_name = m.value;
-}
+map_shape_of decls m =
+    record { place = place_of decls (place_of_values m); is_sparse = m.is_sparse; key_name = m.key; value_name = m.value }
 
 -- the shape that a form declares
 abbrev pub shape_of : List Decl → Form → Shape
@@ -114,37 +101,25 @@ shape_of decls (map m) = Shape.map (map_shape_of decls m)
 abbrev pub table_from : List Decl → Table
 table_from decls = list_map (λ (d : Decl). record { name = d.name; shape = shape_of decls d.form }) decls
 
--- ---- the tests of a place
-
--- the target is `float` or `double`
-abbrev pub has_float_target : PlaceWords → Bool
-has_float_target p = is_float_name p.target
-
--- the target is neither a scalar, nor a document, nor declared
-abbrev pub has_unknown_target : List Decl → PlaceWords → Bool
-has_unknown_target decls p = not (is_simple_name p.target) && not (is_declared decls p.target)
-
--- the time form is none of the three, whatever the target is
-abbrev pub has_unknown_time : PlaceWords → Bool
-has_unknown_time p = option_map_or (λ word. not (is_time_format word)) p.time false
-
 -- ---- the tests, of a declaration and its number among all of them, from 1
 
 -- a test of one declaration, which may look at all of them and at its own number
 abbrev pub Test : Type 0
 Test = List Decl → ℕ → Decl → Bool
 
--- a place of a float
+-- a place whose target is `float` or `double`
 abbrev pub has_float_shape : Test
-has_float_shape decls n d = list_any has_float_target (places_of d.form)
+has_float_shape decls n d = list_any (λ (p : PlaceWords). is_float_name p.target) (places_of d.form)
 
--- a place whose target isn't known
+-- a place whose target is neither a scalar, nor a document, nor declared
 abbrev pub has_unknown_shape : Test
-has_unknown_shape decls n d = list_any (has_unknown_target decls) (places_of d.form)
+has_unknown_shape decls n d =
+    list_any (λ (p : PlaceWords). not (is_simple_name p.target) && not (is_declared decls p.target)) (places_of d.form)
 
--- a place whose time form isn't known
+-- a place whose time form is none of the three, whatever the target is
 abbrev pub has_unknown_time_format : Test
-has_unknown_time_format decls n d = list_any has_unknown_time (places_of d.form)
+has_unknown_time_format decls n d =
+    list_any (λ (p : PlaceWords). option_map_or (λ word. not (is_time_format word)) p.time false) (places_of d.form)
 
 -- the name of an earlier declaration, of a scalar, or of documents
 abbrev pub is_duplicate : Test
@@ -206,14 +181,12 @@ pub data TableAnswer : Type 0 where
 
 -- the number of the first declaration that fails the test
 abbrev pub first_failing : List Decl → Test → Option ℕ
-first_failing decls test =
-    option_map (λ p. p.0) (find (λ p. test decls p.0 p.1) (enumerate_from 1 decls))
+first_failing decls test = option_map (λ p. p.0) (find (λ p. test decls p.0 p.1) (enumerate_from 1 decls))
 
 -- the first of the tests that some declaration fails
 abbrev pub first_fault : List Decl → List (Fault × Test) → Option (Fault × ℕ)
 first_fault decls [] = None
-first_fault decls (t ∷ ts) =
-    option_or (option_map (λ n. (t.0, n)) (first_failing decls t.1)) (first_fault decls ts)
+first_fault decls (t ∷ ts) = option_or (option_map (λ n. (t.0, n)) (first_failing decls t.1)) (first_fault decls ts)
 
 -- the table that declarations are, or their first fault
 abbrev pub build_of : List Decl → TableAnswer

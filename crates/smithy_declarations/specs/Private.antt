@@ -1,4 +1,5 @@
 pub mod Words
 pub mod Order
+pub mod PlaceTests
 pub mod DeclNames
 pub mod Tests

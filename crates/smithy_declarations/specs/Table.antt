@@ -33,8 +33,7 @@ pub record MapShape : Type 0 where
 
 -- what a declaration declares
 pub data Shape : Type 0 where
-  structure : List Member → Shape
-  union : List Member → Shape
+  structure union : List Member → Shape
   list : ListShape → Shape
   map : MapShape → Shape
 
@@ -76,8 +75,7 @@ pub data Kind : Type 0 where
   scalar : Scalar → Kind
   -- open content, which no shape describes
   document : Kind
-  structure_of : List Member → Kind
-  union_of : List Member → Kind
+  structure_of union_of : List Member → Kind
   list_of : ListShape → Kind
   map_of : MapShape → Kind
   nothing : Kind
@@ -156,8 +154,7 @@ map_shape_of _ = None
 
 -- the place of a member by its position
 abbrev pub member_place : List Member → Option ℕ → Option Place
-member_place members position =
-    option_map (λ (m : Member). m.place) (option_and_then (slice_get members) position)
+member_place members position = option_map (λ (m : Member). m.place) (option_and_then (slice_get members) position)
 
 -- the place of a child: of a member by its position, of an element or a map's value without one
 abbrev pub place_in : Kind → Option ℕ → Option Place

@@ -2,7 +2,8 @@
 ghost use Rattle.std.specs.Prelude.{◌≡◌, ◌+◌, ◌&&◌, [], take, map, not, IfOk, IfErr, OnOk, None};
 ghost use Rattle.std.specs.List.{list_any, list_all};
 ghost use Rattle.smithy_declarations.specs.Names.{is_simple_name, is_query_name};
-ghost use Rattle.smithy_declarations.specs.Acceptance.{refused, has_unknown_time, is_duplicate, is_declared, has_clash as has_clash_of_members, has_unfit_name, has_one_entry_name, has_sparse_documents, query_name_of, places_of, first_failing, first_fault, tests, build_of};
+ghost use Rattle.smithy_declarations.specs.Acceptance.{refused, is_duplicate, is_declared, has_clash as has_clash_of_members, has_unfit_name, has_one_entry_name, has_sparse_documents, query_name_of, places_of, first_failing, first_fault, tests, build_of};
+ghost use Rattle.smithy_declarations.specs.Private.PlaceTests.{has_unknown_time};
 ghost use Rattle.smithy_declarations.specs.DeclViews.{decl_of, member_decl_of, place_words_of, IsRefusedBy};
 ghost use Rattle.smithy_declarations.specs.Private.DeclNames.{declared_name};
 ghost use Rattle.smithy_declarations.specs.Private.Order.{IsOrderOf};

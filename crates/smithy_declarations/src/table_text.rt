@@ -1,7 +1,8 @@
 //! Reads the text of a table, line by line.
 ghost use Rattle.std.specs.Prelude.{◌≡◌, map, option_map, IfOk, IfErr, MatchBool};
 ghost use Rattle.std.specs.Str.Lines.{strip_carriage_return};
-ghost use Rattle.smithy_declarations.specs.TableText.{words_of, is_passed_over, after_line, with_form, with_member, add_member as with_member_added, declarations_of, declarations};
+ghost use Rattle.smithy_declarations.specs.TableText.{words_of, is_passed_over, after_line, with_member, add_member as with_member_added, declarations_of, declarations};
+ghost use Rattle.smithy_declarations.specs.Private.PlaceTests.{with_form};
 ghost use Rattle.smithy_declarations.specs.DeclViews.{decl_of, member_decl_of, IsLineFault};
 
 mod line;

@@ -18,7 +18,8 @@ use Rattle.smithy_declarations.specs.Table as table
 use Rattle.smithy_declarations.specs.Table.{Kind, scalar, document, structure_of, nothing, kind_of_shape, kind_of, kind_of_target, place_in, list_shape_of, map_shape_of, element_name_of, is_document_target, IsDocument, IsSparse, IsClosed}
 use Rattle.smithy_declarations.specs.Names.{simple_targets, named, is_document_name, is_reserved, has_equal_texts, is_query_name}
 use Rattle.smithy_declarations.specs.Decl.{PlaceWords, MemberDecl, MapDecl, Form, structure, union, list, map as map_form, Decl}
-use Rattle.smithy_declarations.specs.Acceptance.{Fault, Test, tests, members_of, place_of_member, place_of_elements, place_of_values, places_of, query_names_of, element_name_of as written_name_of, key_name_of, value_name_of, is_declared, place_of, member_of, list_shape_of as shape_of_list, map_shape_of as shape_of_map, shape_of, table_from, json_name_of, query_name_of, has_unknown_target, has_unknown_shape, is_duplicate, has_clash, has_unfit_name, has_one_entry_name, has_key_value_name, has_sparse_documents, is_sparse_document, is_too_many, first_failing, first_fault}
+use Rattle.smithy_declarations.specs.Acceptance.{Fault, Test, tests, members_of, place_of_member, place_of_elements, place_of_values, places_of, query_names_of, element_name_of as written_name_of, key_name_of, value_name_of, is_declared, place_of, member_of, list_shape_of as shape_of_list, map_shape_of as shape_of_map, shape_of, table_from, json_name_of, query_name_of, has_unknown_shape, is_duplicate, has_clash, has_unfit_name, has_one_entry_name, has_key_value_name, has_sparse_documents, is_sparse_document, is_too_many, first_failing, first_fault}
+use Rattle.smithy_declarations.specs.Private.PlaceTests.{has_unknown_target}
 use Rattle.smithy_shapes.specs.Accepted.{AreAcceptedMembers, AreAcceptedNames, HaveTextNames, IsAccepted}
 use Rattle.smithy_shapes.specs.Lemmas.Kinds.{document_target_is}
 use Rattle.smithy_declarations.proofs.OrderLemmas.{first_of, false_if, not_both, no_equal_texts, le_or_lt}

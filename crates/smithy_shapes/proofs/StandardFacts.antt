@@ -2,6 +2,7 @@
 use Rattle.std.proofs.Common.{◌≡◌, ℕ, List, [], ◌∷◌, ◌++◌, Option, Some, None, Bool, true, false, refl, codes, map as list_map}
 use Prim.Native.String.{String}
 use Rattle.std.specs.List.{join_with_byte}
+use Rattle.std.specs.Str.{byte}
 use Rattle.smithy_declarations.specs.declared.place.Place.{Place}
 use Rattle.smithy_declarations.specs.declared.place.Target.{Target}
 use Rattle.smithy_declarations.specs.declared.place.Target.TheVariants.{Simple, Declared}
@@ -9,12 +10,12 @@ use Rattle.smithy_declarations.specs.declared.shape_type.Scalar.TheVariants as s
 use Rattle.smithy_declarations.specs.declared.shape_type.TimestampFormat.TheVariants.{EpochSeconds, HttpDate}
 use Rattle.smithy_declarations.specs.Table.{Table, Member, ListShape, MapShape, structure, union, list, map, declared_as}
 use Rattle.smithy_declarations.specs.Decl.{Form}
-use Rattle.smithy_declarations.specs.TableText.{line_feed, declarations_of, declarations}
+use Rattle.smithy_declarations.specs.TableText.{declarations_of, declarations}
 use Rattle.smithy_declarations.specs.Acceptance.{Fault, accepted, refused, table_of, build_of, has_one_entry_name, is_too_many}
 use Rattle.smithy_shapes.proofs.OnLiterals.{smithy_shapes_on_literals}
 
 abbrev lines : List String → List ℕ
-lines ls = join_with_byte line_feed (list_map codes ls)
+lines ls = join_with_byte (byte "\n") (list_map codes ls)
 
 abbrev place : Target → Place
 place target = record { target = target; time = None }
@@ -106,7 +107,7 @@ unfolding smithy_shapes_on_literals
 passed_over = refl
 
 -- one carriage return at a line's end is dropped, and only one
-pub one_return : table_of (codes "structure S" ++ 0x0d ∷ line_feed ∷ 0x0d ∷ []) ≡ accepted empty_structure
+pub one_return : table_of (codes "structure S" ++ 0x0d ∷ byte "\n" ∷ 0x0d ∷ []) ≡ accepted empty_structure
 unfolding smithy_shapes_on_literals
 one_return = refl
 
@@ -115,7 +116,7 @@ unfolding smithy_shapes_on_literals
 two_returns = refl
 
 -- a comment may be anything, and any other line is in UTF-8
-pub not_utf8 : table_of (codes "#" ++ 0xff ∷ line_feed ∷ codes "structure " ++ 0xff ∷ []) ≡ refused Fault.bad_line 2
+pub not_utf8 : table_of (codes "#" ++ 0xff ∷ byte "\n" ∷ codes "structure " ++ 0xff ∷ []) ≡ refused Fault.bad_line 2
 unfolding smithy_shapes_on_literals
 not_utf8 = refl
 

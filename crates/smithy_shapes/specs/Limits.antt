@@ -3,8 +3,7 @@ use Rattle.std.specs.Prelude.{ℕ, nat_le, Bool, true}
 
 -- the limits are kept, or lifted
 pub data Limits : Type 0 where
-  kept : Limits
-  lifted : Limits
+  kept lifted : Limits
 
 -- a depth of at most the greatest, where limits are kept, and any where they are lifted
 abbrev pub is_within : Limits → ℕ → ℕ → Bool

@@ -30,43 +30,20 @@ nameless view = record view { name = None; index = None; is_flat = false }
 
 -- the view of the member at a position
 abbrev pub member_view : ℕ → Member → View
-member_view n m = record {
-  name = Some m.name;
-  index = Some n;
-  json_name = m.json_name;
-  xml_name = m.xml_name;
-  is_flat = m.is_flat;
-}
+member_view n m =
+    record { name = Some m.name; index = Some n; json_name = m.json_name; xml_name = m.xml_name; is_flat = m.is_flat }
 
 -- the elements of a list stand under the name `member`
 abbrev pub element_view : ListShape → View
-element_view l = record {
-  name = Some (codes "member");
-  index = None;
-  json_name = None;
-  xml_name = l.xml_name;
-  is_flat = false;
-}
+element_view l = record whole_view { name = Some (codes "member"); xml_name = l.xml_name }
 
 -- the keys of a map stand under the name `key`
 abbrev pub key_view : MapShape → View
-key_view m = record {
-  name = Some (codes "key");
-  index = None;
-  json_name = None;
-  xml_name = m.key_name;
-  is_flat = false;
-}
+key_view m = record whole_view { name = Some (codes "key"); xml_name = m.key_name }
 
 -- the values of a map stand under the name `value`
 abbrev pub value_view : MapShape → View
-value_view m = record {
-  name = Some (codes "value");
-  index = None;
-  json_name = None;
-  xml_name = m.value_name;
-  is_flat = false;
-}
+value_view m = record whole_view { name = Some (codes "value"); xml_name = m.value_name }
 
 -- the view of a shape as a whole, of a member with its position, of a list's elements, of a map's keys and values
 abbrev pub view_from : Origin → View

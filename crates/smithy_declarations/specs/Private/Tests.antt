@@ -5,7 +5,8 @@ use Rattle.smithy_declarations.specs.declared.acceptance.Test.TheVariants as kep
 use Rattle.smithy_declarations.specs.declared.acceptance.PlaceTest as kept_place
 use Rattle.smithy_declarations.specs.declared.acceptance.PlaceTest.TheVariants as kept_place_tests
 use Rattle.smithy_declarations.specs.Decl.{PlaceWords, Decl}
-use Rattle.smithy_declarations.specs.Acceptance.{Test, Fault, float_shape, unknown_target, unknown_time_format, duplicate_shape, name_clash, query_name, key_value_name, sparse_document, too_many, has_float_target, has_unknown_target, has_unknown_time, has_float_shape, has_unknown_shape, has_unknown_time_format, is_duplicate, has_clash, has_unfit_name, has_key_value_name, is_sparse_document, is_too_many}
+use Rattle.smithy_declarations.specs.Acceptance.{Test, Fault, float_shape, unknown_target, unknown_time_format, duplicate_shape, name_clash, query_name, key_value_name, sparse_document, too_many, has_float_shape, has_unknown_shape, has_unknown_time_format, is_duplicate, has_clash, has_unfit_name, has_key_value_name, is_sparse_document, is_too_many}
+use Rattle.smithy_declarations.specs.Private.PlaceTests.{has_float_target, has_unknown_target, has_unknown_time}
 
 abbrev pub place_test_of : kept_place.PlaceTest → List Decl → PlaceWords → Bool
 place_test_of kept_place_tests.FloatTarget decls = has_float_target
