@@ -1,9 +1,10 @@
 //! The head of an item: its major type and its argument.
 
-ghost use Rattle.std.specs.Prelude.{◌≡◌, ◌≤◌, ◌+◌, ◌++◌, ◌↔◌, OnOk, OnErr, IfOk, IsErrOf, Some, ◌∷◌, drop, length};
-ghost use Rattle.cbor_item.specs.Head.{shortest_head, BeginsWithHead, IsCutHead, IsBrokenHead};
+ghost use Rattle.std.specs.Prelude.{◌≡◌, ◌≤◌, Some, ◌∷◌, drop, length};
+ghost use Rattle.cbor_item.specs.Head.{shortest_head};
 ghost use Rattle.cbor_item.specs.HeadView.{head_read};
-ghost use Rattle.cbor_item.specs.Answer.{NoOtherFault};
+ghost use Rattle.cbor_item.specs.Answer.{ReadsHead};
+ghost use Rattle.cbor_item.specs.Writing.{Appends};
 
 use crate::error::ItemError;
 use std::alloc::AllocError;
@@ -24,10 +25,7 @@ pub struct Head {
 /// Reads the head that begins at the offset.
 pub fn read_head(input: &[u8], at: usize) -> Result<Head, ItemError>
     requires { at ≤ length input.now }
-    ensures found { IfOk result (λ head. BeginsWithHead (drop at input.now) (head_read head)) }
-    ensures truncated { IsErrOf result ItemError.Truncated ↔ IsCutHead (drop at input.now) }
-    ensures not_well_formed { IsErrOf result ItemError.NotWellFormed ↔ IsBrokenHead (drop at input.now) }
-    ensures no_other_error { NoOtherFault result }
+    ensures { ReadsHead (drop at input.now) result }
 {
     match &input[at..] {
         [] => Err(ItemError::Truncated),
@@ -37,10 +35,7 @@ pub fn read_head(input: &[u8], at: usize) -> Result<Head, ItemError>
 
 /// The head of the initial byte and the bytes after it.
 fn head_after(initial: u8, following: &[u8]) -> Result<Head, ItemError>
-    ensures found { IfOk result (λ head. BeginsWithHead (initial ∷ following.now) (head_read head)) }
-    ensures truncated { IsErrOf result ItemError.Truncated ↔ IsCutHead (initial ∷ following.now) }
-    ensures not_well_formed { IsErrOf result ItemError.NotWellFormed ↔ IsBrokenHead (initial ∷ following.now) }
-    ensures no_other_error { NoOtherFault result }
+    ensures { ReadsHead (initial ∷ following.now) result }
 {
     let major = initial / 32;
     match (initial % 32, following) {
@@ -83,8 +78,7 @@ fn head_of(major: u8, argument: u64, length: u8) -> Head
 #[inline(always)]
 pub fn write_head(out: &mut Vec<u8>, major: u8, argument: u64) -> Result<(), AllocError>
     requires { major ≤ 7 }
-    ensures ok { OnOk result (out.new.items ≡ out.old.items ++ shortest_head major argument) }
-    ensures err { OnErr result (out.new.items ≡ out.old.items) }
+    ensures { Appends (shortest_head major argument) out.old.items result out.new.items }
 {
     if argument < 24 {
         return Ok(out.push(32 * major + argument as u8)?);
@@ -97,8 +91,7 @@ pub fn write_head(out: &mut Vec<u8>, major: u8, argument: u64) -> Result<(), All
 fn write_long_head(out: &mut Vec<u8>, major: u8, argument: u64) -> Result<(), AllocError>
     requires major { major ≤ 7 }
     requires long { 24 ≤ argument }
-    ensures ok { OnOk result (out.new.items ≡ out.old.items ++ shortest_head major argument) }
-    ensures err { OnErr result (out.new.items ≡ out.old.items) }
+    ensures { Appends (shortest_head major argument) out.old.items result out.new.items }
 {
     let kind = 32 * major;
     match argument {
@@ -116,8 +109,7 @@ fn write_long_head(out: &mut Vec<u8>, major: u8, argument: u64) -> Result<(), Al
 fn write_wide_head(out: &mut Vec<u8>, major: u8, argument: u64) -> Result<(), AllocError>
     requires major { major ≤ 7 }
     requires wide { 65536 ≤ argument }
-    ensures ok { OnOk result (out.new.items ≡ out.old.items ++ shortest_head major argument) }
-    ensures err { OnErr result (out.new.items ≡ out.old.items) }
+    ensures { Appends (shortest_head major argument) out.old.items result out.new.items }
 {
     let kind = 32 * major;
     if argument <= 0xffff_ffff {

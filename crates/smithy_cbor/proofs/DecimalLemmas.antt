@@ -34,7 +34,7 @@ pair_there exponent mantissa input at body end (longer, (fits, (low, spelled, sh
 -- an array whose two items a break ends
 pub pair_until_break : (exponent mantissa : ℤ) (input : List ℕ) (at body end : ℕ) → OpensAt 4 None input at body → ArePartsUntilBreak exponent mantissa input body end
     → IsPairAt exponent mantissa input at end
-pair_until_break exponent mantissa input at body end (longer, (fits, (may, opening))) (stop, (next, (e, first, is), (m, second, is')), ends, closing) =
+pair_until_break exponent mantissa input at body end (longer, (fits, (may, opening))) (stop, (next, (e, first, is), (m, second, is')), (ends, closing)) =
     let inner = two_encoded e m input body next stop first second in
     let ordered : body ≤ stop = omega (arith, item_ordered e input body next first, item_ordered m input next stop second) in
     let within : end ≤ length input = omega (arith, ap length closing, length-drop stop input, length-drop end input) in

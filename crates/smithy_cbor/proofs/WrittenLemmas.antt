@@ -4,6 +4,7 @@ use Rattle.std.specs.Prelude.{pos, negsuc, unsigned_abs, int_le, if◌then◌els
 use Rattle.std.proofs.lemmas.Bool.Decides.{nat_tests}
 use Rattle.cbor_item.proofs.HeadLemmas.{take_front}
 use Rattle.cbor_item.specs.Head.{shortest_head}
+use Rattle.cbor_item.specs.Writing.{Appends}
 use Rattle.std.proofs.lemmas.Int.{ints}
 use Rattle.smithy_cbor.specs.Written.{bignum_bytes, magnitude_bytes, big_integer_bytes}
 
@@ -25,10 +26,10 @@ beyond_heads major number n large = ap (λ t. if t then shortest_head major n el
 -- two writes, of which the second is taken back with the first where it is refused
 pub two_writes : {T E : Type 0} (old a b between left new : List ℕ) (rest result : Result T E) (start : ℕ) → start ≡ length old → between ≡ old ++ a
     → OnOk rest (left ≡ between ++ b) → OnErr rest (left ≡ between) → result ≡ rest → OnOk rest (new ≡ left) → OnErr rest (new ≡ take start left)
-    → OnOk result (new ≡ old ++ (a ++ b)) × OnErr result (new ≡ old)
+    → Appends (a ++ b) old result new
 two_writes old a b between left new (Ok x) result start begins first second refused same kept cut =
     let all = kept ∙ second ∙ ap (λ l. l ++ b) first ∙ append_assoc old a b in
-    rw same (all, tt)
+    rw same (record { ok = all; err = tt })
 two_writes old a b between left new (Err e) result start begins first second refused same kept cut =
     let none = cut ∙ ap (λ n. take n left) begins ∙ ap (take (length old)) (refused ∙ first) ∙ take_front old a in
-    rw same (tt, none)
+    rw same (record { ok = tt; err = none })

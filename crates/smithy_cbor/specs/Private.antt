@@ -1,3 +1,4 @@
 -- Words that private clauses cite.
 pub mod HeadNumber
+pub mod Finding
 pub mod DecimalPlaces

@@ -1,5 +1,5 @@
 -- What a read finds at a place of an input, and why it finds nothing.
-use Rattle.std.specs.Prelude.{◌≡◌, ◌≢◌, ◌⊎◌, ◌<◌, ◌-◌, ℕ, ℤ, pos, ◌*ℤ◌, true, List, All, IsUtf8, Option, Some, None, MatchOption, drop, FitsSigned}
+use Rattle.std.specs.Prelude.{◌≡◌, ◌≢◌, ◌⊎◌, ◌<◌, ◌+◌, ◌-◌, ◌∷◌, ℕ, ℤ, pos, ◌*ℤ◌, true, List, All, IsUtf8, Option, Some, None, MatchOption, drop, FitsSigned}
 use Rattle.std.specs.List.{concat}
 use Rattle.std.specs.Int.{Width, w64, w128}
 use Rattle.std.specs.Fmt.{signed_decimal}
@@ -10,12 +10,12 @@ use Rattle.cbor_item.specs.declared.error.ItemError.{ItemError}
 use Rattle.cbor_item.specs.declared.error.ItemError.TheVariants as item
 use Rattle.cbor_item.specs.Head.{HeadRead, BeginsWithHead, IsCutHead, IsBrokenHead}
 use Rattle.cbor_item.specs.Item.{Item, Extent, text_string, tag, float}
-use Rattle.cbor_item.specs.WellFormed.{IsItemAt}
+use Rattle.cbor_item.specs.WellFormed.{break, IsItemAt}
 use Rattle.cbor_item.specs.CutShort.{IsCutChunk}
 use Rattle.smithy_cbor.specs.declared.error.DecodeKind.{DecodeKind}
 use Rattle.smithy_cbor.specs.declared.error.DecodeKind.TheVariants.{OutOfRange, TooWide, NotCarried, NoMemory}
 use Rattle.smithy_cbor.specs.Kind.{kind_of_item_error}
-use Rattle.smithy_cbor.specs.Scalar.{integer_of, bytes_of, big_integer_of, decimal_fraction_of, epoch_seconds_of}
+use Rattle.smithy_cbor.specs.Scalar.{integer_of, bytes_of, big_integer_of, decimal_fraction_of, epoch_seconds_of, false_value, true_value}
 
 -- the integer stands there
 abbrev pub IsIntegerAt : ℤ → List ℕ → ℕ → ℕ → Type 0
@@ -34,6 +34,10 @@ OpensAt major argument input at end =
     × BeginsWithHead (drop at input)
     (record { major = major; argument = argument; length = end - at })
 
+-- a break stands there
+abbrev pub IsBreakAt : List ℕ → ℕ → ℕ → Type 0
+IsBreakAt input at end = (end ≡ at + 1) × (drop at input ≡ break ∷ drop end input)
+
 -- the heads of what a read takes: the major type alone, one simple value in the initial byte, a break
 abbrev pub IsOfType : ℕ → HeadRead → Type 0
 IsOfType major h = h.major ≡ major
@@ -43,6 +47,9 @@ IsInteger h = (h.major ≡ 0) ⊎ (h.major ≡ 1)
 
 abbrev pub IsSimpleHead : ℕ → HeadRead → Type 0
 IsSimpleHead n h = (h.major ≡ 7) × (h.argument ≡ Some n) × (h.length ≡ 1)
+
+abbrev pub IsBooleanHead : HeadRead → Type 0
+IsBooleanHead h = IsSimpleHead false_value h ⊎ IsSimpleHead true_value h
 
 abbrev pub IsBreakHead : HeadRead → Type 0
 IsBreakHead h = (h.major ≡ 7) × (h.argument ≡ None)

@@ -1,13 +1,13 @@
 //! Decimal fractions at a place of an input (RFC 8949, section 3.4.4): the parts that stand there, of
 //! any size, and where the item ends.
 
-ghost use Rattle.std.specs.Prelude.{◌≡◌, ◌≤◌, ◌+◌, ◌∷◌, ℤ, ℕ, true, IfOk, IfErr, IfSome, FitsSigned, drop, length};
+ghost use Rattle.std.specs.Prelude.{◌≡◌, ◌≤◌, true, IfOk, IfSome, FitsSigned, length};
 ghost use Rattle.std.specs.Option.{SomeIff};
-ghost use Rattle.std.specs.Int.{w64, w128};
-ghost use Rattle.cbor_item.specs.WellFormed.{break};
+ghost use Rattle.std.specs.Int.{w64};
 ghost use Rattle.smithy_texts.specs.Ranges.{is_exponent};
 ghost use Rattle.smithy_cbor.specs.Reading.{IsDecimalAt, AreParts, AreNoParts, AreNoPartsUntilBreak, IsNoPair, IsNoDecimal};
 ghost use Rattle.smithy_cbor.specs.Private.DecimalPlaces.{ArePartsUntilBreak, IsPairAt};
+ghost use Rattle.smithy_cbor.specs.Private.Finding.{FindsParts};
 
 use crate::heads::{break_at, tag_at};
 use crate::initial::{ARRAY, DECIMAL_FRACTION};
@@ -20,9 +20,7 @@ type Parts = (i128, Option<i128>, usize);
 /// The decimal fraction that begins at the offset.
 pub(crate) fn decimal_at(input: &[u8], at: usize) -> Result<Parts, ItemError>
     requires { at ≤ length input.now }
-    ensures found { IfOk result (λ r. (m : ℤ) × IsDecimalAt r.0 m input.now at r.2 × SomeIff r.1 (FitsSigned w128 m) m) }
-    ensures fits { IfOk result (λ r. FitsSigned w128 r.0) }
-    ensures refused { IfErr result (IsNoDecimal input.now at) }
+    ensures { FindsParts IsDecimalAt IsNoDecimal input.now at result }
 {
     let body = tag_at(input, at, DECIMAL_FRACTION)?;
     pair_at(input, body)
@@ -31,9 +29,7 @@ pub(crate) fn decimal_at(input: &[u8], at: usize) -> Result<Parts, ItemError>
 // The array of exponent and mantissa that begins at the offset.
 fn pair_at(input: &[u8], at: usize) -> Result<Parts, ItemError>
     requires { at ≤ length input.now }
-    ensures found { IfOk result (λ r. (m : ℤ) × IsPairAt r.0 m input.now at r.2 × SomeIff r.1 (FitsSigned w128 m) m) }
-    ensures fits { IfOk result (λ r. FitsSigned w128 r.0) }
-    ensures refused { IfErr result (IsNoPair input.now at) }
+    ensures { FindsParts IsPairAt IsNoPair input.now at result }
 {
     let head = read_head(input, at)?;
     let body = at + usize::from(head.length);
@@ -47,9 +43,7 @@ fn pair_at(input: &[u8], at: usize) -> Result<Parts, ItemError>
 // The exponent and the mantissa that begin at the offset, and the break behind them.
 fn parts_until_break(input: &[u8], at: usize) -> Result<Parts, ItemError>
     requires { at ≤ length input.now }
-    ensures found { IfOk result (λ r. (m : ℤ) × ArePartsUntilBreak r.0 m input.now at r.2 × SomeIff r.1 (FitsSigned w128 m) m) }
-    ensures fits { IfOk result (λ r. FitsSigned w128 r.0) }
-    ensures refused { IfErr result (AreNoPartsUntilBreak input.now at) }
+    ensures { FindsParts ArePartsUntilBreak AreNoPartsUntilBreak input.now at result }
 {
     let (exponent, mantissa, end) = parts_at(input, at)?;
     let end = break_at(input, end)?;
@@ -59,10 +53,8 @@ fn parts_until_break(input: &[u8], at: usize) -> Result<Parts, ItemError>
 // The exponent and the mantissa that begin at the offset.
 fn parts_at(input: &[u8], at: usize) -> Result<Parts, ItemError>
     requires { at ≤ length input.now }
-    ensures found { IfOk result (λ r. (m : ℤ) × AreParts r.0 m input.now at r.2 × SomeIff r.1 (FitsSigned w128 m) m) }
-    ensures fits { IfOk result (λ r. FitsSigned w128 r.0) }
+    ensures finds { FindsParts AreParts AreNoParts input.now at result }
     ensures within { IfOk result (λ r. r.2 ≤ length input.now) }
-    ensures refused { IfErr result (AreNoParts input.now at) }
 {
     let (exponent, next) = integer_at(input, at)?;
     let (mantissa, end) = big_integer_at(input, next)?;

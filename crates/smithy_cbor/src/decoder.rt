@@ -1,6 +1,6 @@
 //! Reading CBOR, value by value.
 
-ghost use Rattle.std.specs.Prelude.{◌≡◌, ◌≤◌, IfOk, IfErr, OnOk, OnErr, Some, None, drop, length};
+ghost use Rattle.std.specs.Prelude.{◌≡◌, ◌≤◌, IfOk, IfErr, Some, None, drop, length};
 ghost use Rattle.cbor_item.specs.Fault.{IsItemFault};
 ghost use Rattle.cbor_item.specs.Kind.{kind_of};
 ghost use Rattle.cbor_item.specs.WellFormed.{HoldsOneItem};
@@ -27,8 +27,7 @@ pub struct Decoder<'b> {
 }
 
 impl<'b> Decoder<'b> {
-    ghost use Rattle.smithy_cbor.specs.DecoderView.{input_of, position_of, Reads, IsRefusal};
-    ghost use Rattle.smithy_cbor.specs.Reading.{IsKindOf};
+    ghost use Rattle.smithy_cbor.specs.DecoderView.{input_of, position_of, Decodes, IsRefusal, IsKindAt};
     ghost use Rattle.smithy_cbor.specs.Kind.{kind_of_item_error};
     ghost use Rattle.smithy_cbor.specs.declared.error.DecodeKind.TheVariants.{Truncated};
 
@@ -69,9 +68,7 @@ impl<'b> Decoder<'b> {
 
     /// Goes past one well-formed item.
     pub fn skip(&mut self, alloc: Global) -> Result<(), DeserializeError>
-        ensures read { OnOk result (Reads HoldsOneItem self.old self.new) }
-        ensures refused { IfErr result (IsRefusal (λ input at. IsKindOf (IsItemFault input at)) self.old) }
-        ensures stays { OnErr result (self.new ≡ self.old) }
+        ensures { Decodes (λ _. HoldsOneItem) (IsKindAt IsItemFault) self.old result self.new }
     {
         match skip_item(alloc, self.bytes, self.position) {
             Ok(end) => {

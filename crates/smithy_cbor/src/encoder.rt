@@ -4,6 +4,7 @@ ghost use Rattle.std.specs.Prelude.{◌≡◌, ◌≤◌, ◌↔◌, ◌++◌, �
 ghost use Rattle.std.specs.Int.{w128};
 ghost use Rattle.cbor_item.specs.Head.{shortest_head};
 ghost use Rattle.cbor_item.specs.WellFormed.{break};
+ghost use Rattle.cbor_item.specs.Writing.{Appends};
 ghost use Rattle.smithy_cbor.specs.Scalar.{null_value};
 ghost use Rattle.smithy_cbor.specs.ReadBack.{SaysBigInteger, SaysDecimal, SaysSeconds};
 ghost use Rattle.smithy_cbor.specs.Written.{integer_bytes, boolean_bytes, text_bytes, opening_bytes, byte_string_bytes, without_leading_zeros, magnitude_bytes, big_integer_bytes, decimal_fraction_bytes, epoch_seconds_bytes};
@@ -55,56 +56,49 @@ impl Encoder {
 
     /// Begins a map of indefinite length.
     pub fn begin_map(&mut self) -> Result<(), AllocError>
-        ensures ok { OnOk result (self.new ≡ self.old ++ opening_bytes 5) }
-        ensures err { OnErr result (self.new ≡ self.old) }
+        ensures { Appends (opening_bytes 5) self.old result self.new }
     {
         Ok(self.writer.push(BEGIN_MAP)?)
     }
 
     /// Begins an array of indefinite length.
     pub fn begin_array(&mut self) -> Result<(), AllocError>
-        ensures ok { OnOk result (self.new ≡ self.old ++ opening_bytes 4) }
-        ensures err { OnErr result (self.new ≡ self.old) }
+        ensures { Appends (opening_bytes 4) self.old result self.new }
     {
         Ok(self.writer.push(BEGIN_ARRAY)?)
     }
 
     /// Ends an array or a map of indefinite length.
     pub fn end(&mut self) -> Result<(), AllocError>
-        ensures ok { OnOk result (self.new ≡ self.old ++ break ∷ []) }
-        ensures err { OnErr result (self.new ≡ self.old) }
+        ensures { Appends (break ∷ []) self.old result self.new }
     {
         Ok(self.writer.push(BREAK)?)
     }
 
     /// Begins a map of so many keys, each with its value.
     pub fn map(&mut self, len: usize) -> Result<(), AllocError>
-        ensures ok { OnOk result (self.new ≡ self.old ++ shortest_head 5 len) }
-        ensures err { OnErr result (self.new ≡ self.old) }
+        ensures { Appends (shortest_head 5 len) self.old result self.new }
     {
         write_head(&mut self.writer, MAP, len as u64)
     }
 
     /// Begins an array of so many items.
     pub fn array(&mut self, len: usize) -> Result<(), AllocError>
-        ensures ok { OnOk result (self.new ≡ self.old ++ shortest_head 4 len) }
-        ensures err { OnErr result (self.new ≡ self.old) }
+        ensures { Appends (shortest_head 4 len) self.old result self.new }
     {
         write_head(&mut self.writer, ARRAY, len as u64)
     }
 
     /// Writes a null.
     pub fn null(&mut self) -> Result<(), AllocError>
-        ensures ok { OnOk result (self.new ≡ self.old ++ shortest_head 7 null_value) }
-        ensures err { OnErr result (self.new ≡ self.old) }
+        ensures { Appends (shortest_head 7 null_value) self.old result self.new }
     {
         Ok(self.writer.push(NULL_BYTE)?)
     }
 
     /// Writes false or true.
     pub fn boolean(&mut self, x: bool) -> Result<(), AllocError>
-        ensures ok { OnOk result (self.new ≡ self.old ++ boolean_bytes x) }
-        ensures err { OnErr result (self.new ≡ self.old) }
+        ensures { Appends (boolean_bytes x) self.old result self.new }
     {
         if x {
             Ok(self.writer.push(TRUE_BYTE)?)
@@ -115,24 +109,21 @@ impl Encoder {
 
     /// Writes an integer, in as few bytes as it takes.
     pub fn byte(&mut self, x: i8) -> Result<(), AllocError>
-        ensures ok { OnOk result (self.new ≡ self.old ++ integer_bytes x) }
-        ensures err { OnErr result (self.new ≡ self.old) }
+        ensures { Appends (integer_bytes x) self.old result self.new }
     {
         self.long(i64::from(x))
     }
 
     /// Writes an integer, in as few bytes as it takes.
     pub fn short(&mut self, x: i16) -> Result<(), AllocError>
-        ensures ok { OnOk result (self.new ≡ self.old ++ integer_bytes x) }
-        ensures err { OnErr result (self.new ≡ self.old) }
+        ensures { Appends (integer_bytes x) self.old result self.new }
     {
         self.long(i64::from(x))
     }
 
     /// Writes an integer, in as few bytes as it takes.
     pub fn integer(&mut self, x: i32) -> Result<(), AllocError>
-        ensures ok { OnOk result (self.new ≡ self.old ++ integer_bytes x) }
-        ensures err { OnErr result (self.new ≡ self.old) }
+        ensures { Appends (integer_bytes x) self.old result self.new }
     {
         self.long(i64::from(x))
     }
@@ -140,8 +131,7 @@ impl Encoder {
     /// Writes an integer, in as few bytes as it takes.
     #[inline(always)]
     pub fn long(&mut self, x: i64) -> Result<(), AllocError>
-        ensures ok { OnOk result (self.new ≡ self.old ++ integer_bytes x) }
-        ensures err { OnErr result (self.new ≡ self.old) }
+        ensures { Appends (integer_bytes x) self.old result self.new }
     {
         if x >= 0 {
             write_head(&mut self.writer, UNSIGNED, x as u64)
@@ -152,24 +142,21 @@ impl Encoder {
 
     /// Writes a text in one piece.
     pub fn str(&mut self, x: &str) -> Result<(), AllocError>
-        ensures ok { OnOk result (self.new ≡ self.old ++ text_bytes x.now) }
-        ensures err { OnErr result (self.new ≡ self.old) }
+        ensures { Appends (text_bytes x.now) self.old result self.new }
     {
         self.string(TEXT, x.as_bytes())
     }
 
     /// Writes a byte string in one piece.
     pub fn blob_bytes(&mut self, x: &[u8]) -> Result<(), AllocError>
-        ensures ok { OnOk result (self.new ≡ self.old ++ byte_string_bytes x.now) }
-        ensures err { OnErr result (self.new ≡ self.old) }
+        ensures { Appends (byte_string_bytes x.now) self.old result self.new }
     {
         self.string(BYTES, x)
     }
 
     /// Writes a blob as a byte string in one piece.
     pub fn blob(&mut self, x: &Blob) -> Result<(), AllocError>
-        ensures ok { OnOk result (self.new ≡ self.old ++ byte_string_bytes x.now) }
-        ensures err { OnErr result (self.new ≡ self.old) }
+        ensures { Appends (byte_string_bytes x.now) self.old result self.new }
     {
         self.blob_bytes(x.as_ref())
     }
@@ -177,9 +164,8 @@ impl Encoder {
     /// Writes whole seconds after the epoch, under tag 1.
     pub fn timestamp(&mut self, x: &DateTime) -> Result<(), AllocError>
         requires { subsecond_of x.now ≡ 0 }
-        ensures ok { OnOk result (self.new ≡ self.old ++ epoch_seconds_bytes (seconds_of x.now)) }
+        ensures appends { Appends (epoch_seconds_bytes (seconds_of x.now)) self.old result self.new }
         ensures says { SaysSeconds (seconds_of x.now) (epoch_seconds_bytes (seconds_of x.now)) }
-        ensures err { OnErr result (self.new ≡ self.old) }
     {
         self.epoch_seconds(x.secs())
     }
@@ -187,9 +173,8 @@ impl Encoder {
     // Writes so many seconds after the epoch.
     #[tactic(auto, using(crate::proofs::ReadBackLemmas::seconds_back))]
     fn epoch_seconds(&mut self, x: i64) -> Result<(), AllocError>
-        ensures ok { OnOk result (self.new ≡ self.old ++ epoch_seconds_bytes x) }
+        ensures appends { Appends (epoch_seconds_bytes x) self.old result self.new }
         ensures says { SaysSeconds x (epoch_seconds_bytes x) }
-        ensures err { OnErr result (self.new ≡ self.old) }
     {
         let start = self.writer.len();
         self.tag(EPOCH_SECONDS)?;
@@ -200,9 +185,8 @@ impl Encoder {
     /// Writes a whole number: as an integer where a head holds it, else under tag 2 or 3.
     #[tactic(auto, using(crate::proofs::ReadBackLemmas::big_integer_back))]
     pub fn whole(&mut self, x: i128) -> Result<(), AllocError>
-        ensures ok { OnOk result (self.new ≡ self.old ++ big_integer_bytes x) }
+        ensures appends { Appends (big_integer_bytes x) self.old result self.new }
         ensures says { SaysBigInteger x (big_integer_bytes x) }
-        ensures err { OnErr result (self.new ≡ self.old) }
     {
         if x >= 0 {
             self.magnitude(UNSIGNED, UNSIGNED_BIGNUM, x as u128)
@@ -213,9 +197,8 @@ impl Encoder {
 
     /// Writes a big integer as a whole number.
     pub fn big_integer(&mut self, x: &BigInteger) -> Result<(), EncodeError>
-        ensures ok { OnOk result (self.new ≡ self.old ++ big_integer_bytes (number x.now)) }
+        ensures appends { Appends (big_integer_bytes (number x.now)) self.old result self.new }
         ensures says { OnOk result (SaysBigInteger (number x.now) (big_integer_bytes (number x.now))) }
-        ensures err { OnErr result (self.new ≡ self.old) }
         ensures wide { IsErrOf result TooWide ↔ ¬ (FitsSigned w128 (number x.now)) }
     {
         match x.to_i128() {
@@ -227,9 +210,8 @@ impl Encoder {
     /// Writes a decimal fraction: tag 4 and an array of the exponent and the mantissa.
     #[tactic(auto, using(crate::proofs::ReadBackLemmas::decimal_back))]
     pub fn decimal_fraction(&mut self, exponent: i64, mantissa: i128) -> Result<(), AllocError>
-        ensures ok { OnOk result (self.new ≡ self.old ++ decimal_fraction_bytes exponent mantissa) }
+        ensures appends { Appends (decimal_fraction_bytes exponent mantissa) self.old result self.new }
         ensures says { SaysDecimal exponent mantissa (decimal_fraction_bytes exponent mantissa) }
-        ensures err { OnErr result (self.new ≡ self.old) }
     {
         let start = self.writer.len();
         self.tag(DECIMAL_FRACTION)?;
@@ -239,9 +221,8 @@ impl Encoder {
 
     /// Writes a big decimal as a decimal fraction.
     pub fn big_decimal(&mut self, x: &BigDecimal) -> Result<(), EncodeError>
-        ensures ok { OnOk result (self.new ≡ self.old ++ decimal_fraction_bytes (net_exponent x.now) (mantissa x.now)) }
+        ensures appends { Appends (decimal_fraction_bytes (net_exponent x.now) (mantissa x.now)) self.old result self.new }
         ensures says { OnOk result (SaysDecimal (net_exponent x.now) (mantissa x.now) (decimal_fraction_bytes (net_exponent x.now) (mantissa x.now))) }
-        ensures err { OnErr result (self.new ≡ self.old) }
         ensures wide { IsErrOf result TooWide ↔ ¬ (FitsSigned w128 (mantissa x.now)) }
     {
         match x.to_parts() {
@@ -252,8 +233,7 @@ impl Encoder {
 
     // Writes the array of a decimal fraction.
     fn pair(&mut self, exponent: i64, mantissa: i128) -> Result<(), AllocError>
-        ensures ok { OnOk result (self.new ≡ self.old ++ (shortest_head 4 2 ++ (integer_bytes exponent ++ big_integer_bytes mantissa))) }
-        ensures err { OnErr result (self.new ≡ self.old) }
+        ensures { Appends (shortest_head 4 2 ++ (integer_bytes exponent ++ big_integer_bytes mantissa)) self.old result self.new }
     {
         let start = self.writer.len();
         self.array(2)?;
@@ -263,8 +243,7 @@ impl Encoder {
 
     // Writes an exponent and a mantissa.
     fn parts(&mut self, exponent: i64, mantissa: i128) -> Result<(), AllocError>
-        ensures ok { OnOk result (self.new ≡ self.old ++ (integer_bytes exponent ++ big_integer_bytes mantissa)) }
-        ensures err { OnErr result (self.new ≡ self.old) }
+        ensures { Appends (integer_bytes exponent ++ big_integer_bytes mantissa) self.old result self.new }
     {
         let start = self.writer.len();
         self.long(exponent)?;
@@ -275,8 +254,7 @@ impl Encoder {
     // Writes n under the major type where a head holds it, else its bytes under the tag.
     fn magnitude(&mut self, major: u8, tag: u64, n: u128) -> Result<(), AllocError>
         requires { major ≤ 7 }
-        ensures ok { OnOk result (self.new ≡ self.old ++ magnitude_bytes major tag n) }
-        ensures err { OnErr result (self.new ≡ self.old) }
+        ensures { Appends (magnitude_bytes major tag n) self.old result self.new }
     {
         if n < 0x1_0000_0000_0000_0000 {
             write_head(&mut self.writer, major, n as u64)
@@ -287,8 +265,7 @@ impl Encoder {
 
     // Writes the number of the bytes under the tag.
     fn bignum(&mut self, tag: u64, bytes: &[u8]) -> Result<(), AllocError>
-        ensures ok { OnOk result (self.new ≡ self.old ++ (shortest_head 6 tag ++ byte_string_bytes (without_leading_zeros bytes.now))) }
-        ensures err { OnErr result (self.new ≡ self.old) }
+        ensures { Appends (shortest_head 6 tag ++ byte_string_bytes (without_leading_zeros bytes.now)) self.old result self.new }
     {
         let start = self.writer.len();
         self.tag(tag)?;
@@ -298,8 +275,7 @@ impl Encoder {
 
     // Begins an item under the tag.
     fn tag(&mut self, number: u64) -> Result<(), AllocError>
-        ensures ok { OnOk result (self.new ≡ self.old ++ shortest_head 6 number) }
-        ensures err { OnErr result (self.new ≡ self.old) }
+        ensures { Appends (shortest_head 6 number) self.old result self.new }
     {
         write_head(&mut self.writer, TAG, number)
     }
@@ -307,8 +283,7 @@ impl Encoder {
     // Writes a string of the major type in one piece.
     fn string(&mut self, major: u8, bytes: &[u8]) -> Result<(), AllocError>
         requires { major ≤ 7 }
-        ensures ok { OnOk result (self.new ≡ self.old ++ (shortest_head major (length bytes.now) ++ bytes.now)) }
-        ensures err { OnErr result (self.new ≡ self.old) }
+        ensures { Appends (shortest_head major (length bytes.now) ++ bytes.now) self.old result self.new }
     {
         let start = self.writer.len();
         write_head(&mut self.writer, major, bytes.len() as u64)?;

@@ -1,9 +1,8 @@
 //! Heads that are wanted at a place of an input.
 
-ghost use Rattle.std.specs.Prelude.{◌≡◌, ◌≤◌, ◌+◌, ◌↔◌, ◌∷◌, IfOk, IfErr, IsTrue, Some, drop, length};
+ghost use Rattle.std.specs.Prelude.{◌≤◌, ◌↔◌, IfOk, IfErr, IsTrue, Some, length};
 ghost use Rattle.cbor_item.specs.HeadView.{head_read};
-ghost use Rattle.cbor_item.specs.WellFormed.{break};
-ghost use Rattle.smithy_cbor.specs.Reading.{OpensAt, IsHeadFault, IsTag, IsBreakHead};
+ghost use Rattle.smithy_cbor.specs.Reading.{OpensAt, IsBreakAt, IsHeadFault, IsTag, IsBreakHead};
 
 use crate::initial::{SIMPLE, TAG};
 use cbor_item::{Head, ItemError, read_head};
@@ -25,7 +24,7 @@ pub(crate) fn tag_at(input: &[u8], at: usize, number: u64) -> Result<usize, Item
 /// Where the break ends that stands at the offset.
 pub(crate) fn break_at(input: &[u8], at: usize) -> Result<usize, ItemError>
     requires { at ≤ length input.now }
-    ensures found { IfOk result (λ end. (end ≡ at + 1) × (drop at input.now ≡ break ∷ drop end input.now)) }
+    ensures found { IfOk result (IsBreakAt input.now at) }
     ensures within { IfOk result (λ end. end ≤ length input.now) }
     ensures refused { IfErr result (IsHeadFault IsBreakHead input.now at) }
 {

@@ -1,15 +1,16 @@
 //! Integers, bignums and dates at a place of an input (RFC 8949, section 3.4): what
 //! stands there, of any size, and where it ends.
 
-ghost use Rattle.std.specs.Prelude.{◌≡◌, ◌≤◌, ℤ, ℕ, List, [], ◌∷◌, IfOk, IfErr, IfSome, MatchOption, Some, FitsSigned, drop, length};
+ghost use Rattle.std.specs.Prelude.{◌≡◌, ◌≤◌, ℕ, List, [], ◌∷◌, IfOk, IfErr, IfSome, MatchOption, Some, FitsSigned, drop, length};
 ghost use Rattle.std.specs.Option.{SomeIff};
 ghost use Rattle.std.specs.Int.{w128};
 ghost use Rattle.cbor_item.specs.Head.{BeginsWithHead};
 ghost use Rattle.cbor_item.specs.Item.{definite, byte_string, float};
 ghost use Rattle.cbor_item.specs.WellFormed.{IsItemAt};
 ghost use Rattle.smithy_cbor.specs.Scalar.{big_endian};
-ghost use Rattle.smithy_cbor.specs.Reading.{IsIntegerAt, IsBigIntegerAt, IsInteger, IsHeadFault, IsBytesFault, IsNoBigInteger, IsDateAt, IsNoDate, IsSeconds};
+ghost use Rattle.smithy_cbor.specs.Reading.{IsIntegerAt, IsInteger, IsHeadFault, IsBytesFault, IsNoBigInteger, IsDateAt, IsNoDate, IsSeconds};
 ghost use Rattle.smithy_cbor.specs.Private.HeadNumber.{number_of};
+ghost use Rattle.smithy_cbor.specs.Private.Finding.{FindsAt, IsWideAt, IsBignumAt};
 
 use crate::big_endian::big_endian;
 use crate::heads::tag_at;
@@ -21,10 +22,8 @@ use cbor_item::{ItemError, read_head};
 /// The integer that begins at the offset.
 pub(crate) fn integer_at(input: &[u8], at: usize) -> Result<(i128, usize), ItemError>
     requires { at ≤ length input.now }
-    ensures found { IfOk result (λ r. IsIntegerAt r.0 input.now at r.1) }
+    ensures finds { FindsAt IsIntegerAt (IsHeadFault IsInteger) input.now at result }
     ensures fits { IfOk result (λ r. FitsSigned w128 r.0) }
-    ensures within { IfOk result (λ r. r.1 ≤ length input.now) }
-    ensures refused { IfErr result (IsHeadFault IsInteger input.now at) }
 {
     let head = read_head(input, at)?;
     let end = at + usize::from(head.length);
@@ -38,9 +37,7 @@ pub(crate) fn integer_at(input: &[u8], at: usize) -> Result<(i128, usize), ItemE
 /// The integer or bignum that begins at the offset: no number where it leaves 128 bits.
 pub(crate) fn big_integer_at(input: &[u8], at: usize) -> Result<(Option<i128>, usize), ItemError>
     requires { at ≤ length input.now }
-    ensures found { IfOk result (λ r. (z : ℤ) × IsBigIntegerAt z input.now at r.1 × SomeIff r.0 (FitsSigned w128 z) z) }
-    ensures within { IfOk result (λ r. r.1 ≤ length input.now) }
-    ensures refused { IfErr result (IsNoBigInteger input.now at) }
+    ensures { FindsAt IsWideAt IsNoBigInteger input.now at result }
 {
     let head = read_head(input, at)?;
     let end = at + usize::from(head.length);
@@ -85,10 +82,7 @@ fn seconds_at(input: &[u8], at: usize) -> Result<(Option<i128>, usize), ItemErro
 fn bignum_at(input: &[u8], at: usize, major: u8) -> Result<(Option<i128>, usize), ItemError>
     requires inside { at ≤ length input.now }
     requires integer_type { major ≤ 1 }
-    ensures found { IfOk result (λ r. (chunk : List ℕ) × IsItemAt (byte_string definite (chunk ∷ [])) input.now at r.1
-        × SomeIff r.0 (FitsSigned w128 (number_of major (big_endian chunk))) (number_of major (big_endian chunk))) }
-    ensures within { IfOk result (λ r. r.1 ≤ length input.now) }
-    ensures refused { IfErr result (IsBytesFault input.now at) }
+    ensures { FindsAt (IsBignumAt major) IsBytesFault input.now at result }
 {
     let (bytes, end) = definite_bytes(input, at)?;
     Ok((bignum(major, bytes), end))
@@ -97,9 +91,7 @@ fn bignum_at(input: &[u8], at: usize, major: u8) -> Result<(Option<i128>, usize)
 // The definite byte string that begins at the offset.
 fn definite_bytes(input: &[u8], at: usize) -> Result<(&[u8], usize), ItemError>
     requires { at ≤ length input.now }
-    ensures found { IfOk result (λ r. IsItemAt (byte_string definite (r.0.now ∷ [])) input.now at r.1) }
-    ensures within { IfOk result (λ r. r.1 ≤ length input.now) }
-    ensures refused { IfErr result (IsBytesFault input.now at) }
+    ensures { FindsAt (λ bytes. IsItemAt (byte_string definite (bytes.now ∷ []))) IsBytesFault input.now at result }
 {
     let head = read_head(input, at)?;
     match (head.major, head.argument) {
@@ -117,9 +109,7 @@ fn bytes_behind(
 ) -> Result<(&[u8], usize), ItemError>
     requires inside { at ≤ length input.now }
     requires head { BeginsWithHead (drop at input.now) (record { major = 2; argument = Some announced; length = head }) }
-    ensures found { IfOk result (λ r. IsItemAt (byte_string definite (r.0.now ∷ [])) input.now at r.1) }
-    ensures within { IfOk result (λ r. r.1 ≤ length input.now) }
-    ensures refused { IfErr result (IsBytesFault input.now at) }
+    ensures { FindsAt (λ bytes. IsItemAt (byte_string definite (bytes.now ∷ []))) IsBytesFault input.now at result }
 {
     let start = at + usize::from(head);
     if announced > (input.len() - start) as u64 {

@@ -1,5 +1,5 @@
 -- What a reader finds at the place of a scalar stands there, and where it finds nothing, nothing does.
-use Rattle.std.proofs.Common.{◌≡◌, ◌≤◌, ◌⊎◌, ◌-◌, ◌^◌, ℕ, ℤ, List, length, Bool, true, false, subst, Option, Some, None, refl, sym, ◌∙◌, ap, inl, inr, drop, arith, ◌<◌, ◌++◌, ◌∷◌, []}
+use Rattle.std.proofs.Common.{◌≡◌, ◌≤◌, ◌-◌, ◌^◌, ℕ, ℤ, List, length, Bool, true, false, subst, Option, Some, None, refl, sym, ◌∙◌, ap, inl, inr, drop, arith, ◌<◌, ◌++◌, ◌∷◌, []}
 use Rattle.std.specs.Prelude.{option_map, IsErrOf, Result, Ok, Err, OnErr, IfOk, IfErr, IsOk, IsErr, IfSome, IfNone, IsSome, IsNone, MatchOption, slice_range, FitsSigned, pos, negsuc, neg_ℤ, int_le, int_lt}
 use Rattle.smithy_texts.specs.Base64Text.{are_bytes}
 use Rattle.smithy_texts.specs.Ranges.{fits_signed}
@@ -16,7 +16,7 @@ use Rattle.smithy_shapes.proofs.ScalarLemmas.{fits_more}
 use Rattle.cbor_item.specs.WellFormed.{IsItemAt, IsSimple}
 use Rattle.cbor_item.specs.Item.{Item, unsigned, negative, byte_string, text_string, array, map, tag, simple, float}
 use Rattle.smithy_cbor_values.specs.Settings.{Settings, kept, without_limits}
-use Rattle.smithy_cbor.specs.Scalar.{boolean_item, integer_of, text_of, bytes_of, false_value, true_value}
+use Rattle.smithy_cbor.specs.Scalar.{boolean_item, integer_of, text_of, bytes_of}
 use Rattle.smithy_cbor_values.specs.Scalar.{boolean_of, whole_of, blob_of, says}
 use Rattle.smithy_cbor_values.specs.Laws.{lawful}
 use Rattle.smithy_cbor_values.specs.Meaning.{node_of, rules_of}
@@ -42,7 +42,7 @@ use Rattle.std.proofs.lemmas.Bool.{and_parts, ltb-true}
 use Rattle.cbor_item.specs.Head.{HeadRead, BeginsWithHead, IsHead, immediate, initial_byte}
 use Rattle.cbor_item.proofs.HeadLemmas.{head_in_front, front_begins_low, front_begins}
 use Rattle.smithy_cbor.specs.declared.error.DecodeKind.{DecodeKind}
-use Rattle.smithy_cbor.specs.Reading.{IsInteger, IsIntegerFault, IsKindOf, IsHeadFault, IsSimpleHead}
+use Rattle.smithy_cbor.specs.Reading.{IsInteger, IsIntegerFault, IsKindOf, IsHeadFault, IsBooleanHead}
 use Rattle.smithy_cbor_values.proofs.HeadFaults.{no_wanted_head}
 
 -- ---- where an integer stands
@@ -102,10 +102,6 @@ unless true x P h = tt
 unless false x P h = h refl
 
 -- ---- where a boolean stands
-
--- the head of false or of true
-abbrev IsBooleanHead : HeadRead → Type 0
-IsBooleanHead h = IsSimpleHead false_value h ⊎ IsSimpleHead true_value h
 
 simple_head : (n : ℕ) (input : List ℕ) (at e : ℕ) → n < 24 → IsItemAt (simple n) input at e
     → BeginsWithHead (drop at input) (head_in_front 7 n (initial_byte 7 n ∷ []))

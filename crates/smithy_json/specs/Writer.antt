@@ -1,5 +1,5 @@
 -- What the writers add to a text, and what they lend.
-use Rattle.std.specs.Prelude.{◌≡◌, ℕ, List, [], ◌∷◌, length, nat_lt, if◌then◌else◌, Result, OnOk, OnErr, String, string_bytes}
+use Rattle.std.specs.Prelude.{◌≡◌, ◌++◌, ℕ, List, [], ◌∷◌, length, nat_lt, if◌then◌else◌, Result, IfOk, OnOk, OnErr, String, string_bytes}
 use Rattle.std.specs.Borrow.{RattleType, RestsIfErr, MutBor, Fml, follows, follows_so, name_if_ok, GName}
 use Rattle.std.specs.declared.alloc.AllocError.{AllocError}
 use Rattle.std.specs.declared.alloc.Global.{Global}
@@ -7,6 +7,7 @@ use Rattle.std.specs.contracts.string.String as text
 use Rattle.std.specs.contracts.alloc.Global as global
 use Rattle.std.specs.contracts.impls.GlobalAllocator.TheImpl.{ghosts}
 use Rattle.smithy_json_grammar.specs.Ascii.{value_separator}
+use Rattle.smithy_json.specs.ValueTexts.{name_text}
 use Rattle.smithy_json.specs.declared.writer.JsonValueWriter.{JsonValueWriter}
 use Rattle.smithy_json.specs.declared.writer.JsonArrayWriter.{JsonArrayWriter}
 use Rattle.smithy_json.specs.declared.writer.JsonObjectWriter.{JsonObjectWriter}
@@ -46,6 +47,39 @@ object_start w = w.start
 
 abbrev pub object_borrow : JsonObjectWriter → GName
 object_borrow w = w.json.ghost_name
+
+-- what comes before the next element of an array, and before the value of an object's next member
+abbrev pub before_element : JsonArrayWriter → List ℕ
+before_element w = separator (array_start w) (array_text w)
+
+abbrev pub before_member : List ℕ → JsonObjectWriter → List ℕ
+before_member name w = separator (object_start w) (object_text w) ++ name_text name
+
+-- what is seen of an array or an object that has begun
+pub record Seen (W : Type 0) : Type 0 where
+  pub text : W → List ℕ
+  pub start : W → ℕ
+  pub borrow : W → GName
+
+abbrev pub seen_array : Seen JsonArrayWriter
+seen_array = record { text = array_text; start = array_start; borrow = array_borrow }
+
+abbrev pub seen_object : Seen JsonObjectWriter
+seen_object = record { text = object_text; start = object_start; borrow = object_borrow }
+
+-- What a call says of its answer that begins an array or an object: its bracket stands behind what was written through the borrow
+-- before, and its parts begin behind that.
+pub record Begins {W : Type 0} (seen : Seen W) (borrow : GName) (before bracket : List ℕ) (result : Result W AllocError) : Type 0 where
+  pub same_borrow : IfOk result (λ w. seen.borrow w ≡ borrow)
+  pub value : IfOk result (λ w. seen.text w ≡ before ++ bracket)
+  pub start : IfOk result (λ w. seen.start w ≡ length (seen.text w))
+
+-- What a call says that adds to an array or an object. Where it is refused, nothing is added.
+pub record AddsTo {W T : Type 0} (seen : Seen W) (part : List ℕ) (old : W) (result : Result T AllocError) (new : W) : Type 0 where
+  pub same_borrow : seen.borrow new ≡ seen.borrow old
+  pub same_start : seen.start new ≡ seen.start old
+  pub ok : OnOk result (seen.text new ≡ seen.text old ++ part)
+  pub err : OnErr result (seen.text new ≡ seen.text old)
 
 -- ---- what is left once a borrow has ended
 

@@ -7,7 +7,7 @@ ghost use Rattle.smithy_json.specs.Escape.{escaped, quoted};
 ghost use Rattle.smithy_json_grammar.specs.Unescape.{unescape};
 ghost use Rattle.smithy_types.specs.PrimitiveText.{boolean_text};
 ghost use Rattle.smithy_json.specs.ValueTexts.{name_text};
-ghost use Rattle.smithy_json.specs.Writer.{separator, value_text, value_borrow, array_text, array_start, array_borrow, object_text, object_start, object_borrow, RestsWithoutArray, RestsWithoutObject, ValueRestsWithoutArray, ValueRestsWithoutObject, LendsArrayText, LendsObjectText, LendsElement, LendsMember};
+ghost use Rattle.smithy_json.specs.Writer.{separator, value_text, value_borrow, array_text, object_text, before_element, before_member, seen_array, seen_object, Begins, AddsTo, RestsWithoutArray, RestsWithoutObject, ValueRestsWithoutArray, ValueRestsWithoutObject, LendsArrayText, LendsObjectText, LendsElement, LendsMember};
 ghost use Rattle.smithy_json.specs.Private.Place.{text_borrow, writer_of};
 
 use crate::escape::push_escaped;
@@ -78,10 +78,8 @@ impl<'a> JsonValueWriter<'a> {
 
     /// Begins an array.
     pub fn start_array(self) -> Result<JsonArrayWriter<'a>, AllocError>
-        ensures same_borrow { IfOk result (λ w. array_borrow w ≡ value_borrow self.entry) }
         ensures* rests { sem 𝓛 (ValueRestsWithoutArray self.entry result) }
-        ensures value { IfOk result (λ w. array_text w ≡ value_text self.entry ++ codes "[") }
-        ensures start { IfOk result (λ w. array_start w ≡ length (array_text w)) }
+        ensures begins { Begins seen_array (value_borrow self.entry) (value_text self.entry) (codes "[") result }
     {
         let JsonValueWriter { output } = self;
         JsonArrayWriter::new(output)
@@ -89,10 +87,8 @@ impl<'a> JsonValueWriter<'a> {
 
     /// Begins an object.
     pub fn start_object(self) -> Result<JsonObjectWriter<'a>, AllocError>
-        ensures same_borrow { IfOk result (λ w. object_borrow w ≡ value_borrow self.entry) }
         ensures* rests { sem 𝓛 (ValueRestsWithoutObject self.entry result) }
-        ensures value { IfOk result (λ w. object_text w ≡ value_text self.entry ++ codes "{") }
-        ensures start { IfOk result (λ w. object_start w ≡ length (object_text w)) }
+        ensures begins { Begins seen_object (value_borrow self.entry) (value_text self.entry) (codes "{") result }
     {
         let JsonValueWriter { output } = self;
         JsonObjectWriter::new(output)
@@ -117,10 +113,8 @@ pub struct JsonArrayWriter<'a> {
 impl<'a> JsonArrayWriter<'a> {
     /// Begins an array at the end of the text.
     pub fn new(output: &'a mut String) -> Result<JsonArrayWriter<'a>, AllocError>
-        ensures same_borrow { IfOk result (λ w. array_borrow w ≡ output.entry.ghost_name) }
         ensures* rests { sem 𝓛 (RestsWithoutArray output.entry result) }
-        ensures value { IfOk result (λ w. array_text w ≡ string_bytes output.old ++ codes "[") }
-        ensures start { IfOk result (λ w. array_start w ≡ length (array_text w)) }
+        ensures begins { Begins seen_array output.entry.ghost_name (string_bytes output.old) (codes "[") result }
     {
         output.push_str("[")?;
         let start = output.len();
@@ -134,8 +128,7 @@ impl<'a> JsonArrayWriter<'a> {
     /// with what is written there. It is `begin_value` and then `place`.
     pub fn value(&mut self) -> Result<JsonValueWriter<'_>, AllocError>
         ensures* lends { sem 𝓛 (LendsElement self.entry value_borrow result) }
-        ensures value { IfOk result (λ w. value_text w
-            ≡ array_text self.old ++ separator (array_start self.old) (array_text self.old)) }
+        ensures value { IfOk result (λ w. value_text w ≡ array_text self.old ++ before_element self.old) }
     {
         value_writer(self.element_text())
     }
@@ -143,8 +136,7 @@ impl<'a> JsonArrayWriter<'a> {
     // The text, behind the comma before the next element.
     fn element_text(&mut self) -> Result<&mut String, AllocError>
         ensures* lends { sem 𝓛 (LendsElement self.entry text_borrow result) }
-        ensures value { IfOk result (λ text. string_bytes text.now
-            ≡ array_text self.old ++ separator (array_start self.old) (array_text self.old)) }
+        ensures value { IfOk result (λ text. string_bytes text.now ≡ array_text self.old ++ before_element self.old) }
     {
         push_separator(self.json, self.start)?;
         Ok(self.json)
@@ -152,11 +144,7 @@ impl<'a> JsonArrayWriter<'a> {
 
     /// Adds the comma before the next element, unless it is the first.
     pub fn begin_value(&mut self) -> Result<(), AllocError>
-        ensures same_borrow { array_borrow self.new ≡ array_borrow self.old }
-        ensures same_start { array_start self.new ≡ array_start self.old }
-        ensures ok { OnOk result (array_text self.new
-            ≡ array_text self.old ++ separator (array_start self.old) (array_text self.old)) }
-        ensures err { OnErr result (array_text self.new ≡ array_text self.old) }
+        ensures { AddsTo seen_array (before_element self.old) self.old result self.new }
     {
         push_separator(self.json, self.start)
     }
@@ -196,10 +184,8 @@ pub struct JsonObjectWriter<'a> {
 impl<'a> JsonObjectWriter<'a> {
     /// Begins an object at the end of the text.
     pub fn new(output: &'a mut String) -> Result<JsonObjectWriter<'a>, AllocError>
-        ensures same_borrow { IfOk result (λ w. object_borrow w ≡ output.entry.ghost_name) }
         ensures* rests { sem 𝓛 (RestsWithoutObject output.entry result) }
-        ensures value { IfOk result (λ w. object_text w ≡ string_bytes output.old ++ codes "{") }
-        ensures start { IfOk result (λ w. object_start w ≡ length (object_text w)) }
+        ensures begins { Begins seen_object output.entry.ghost_name (string_bytes output.old) (codes "{") result }
     {
         output.push_str("{")?;
         let start = output.len();
@@ -213,8 +199,7 @@ impl<'a> JsonObjectWriter<'a> {
     /// The object's text goes on with what is written there. It is `begin_member` and then `place`.
     pub fn key(&mut self, key: &str) -> Result<JsonValueWriter<'_>, AllocError>
         ensures* lends { sem 𝓛 (LendsMember self.entry value_borrow result) }
-        ensures value { IfOk result (λ w. value_text w ≡ object_text self.old
-            ++ (separator (object_start self.old) (object_text self.old) ++ name_text key.now)) }
+        ensures value { IfOk result (λ w. value_text w ≡ object_text self.old ++ before_member key.now self.old) }
     {
         value_writer(self.member_text(key))
     }
@@ -222,8 +207,7 @@ impl<'a> JsonObjectWriter<'a> {
     // The text, behind what stands before the next member's value.
     fn member_text(&mut self, key: &str) -> Result<&mut String, AllocError>
         ensures* lends { sem 𝓛 (LendsMember self.entry text_borrow result) }
-        ensures value { IfOk result (λ text. string_bytes text.now ≡ object_text self.old
-            ++ (separator (object_start self.old) (object_text self.old) ++ name_text key.now)) }
+        ensures value { IfOk result (λ text. string_bytes text.now ≡ object_text self.old ++ before_member key.now self.old) }
     {
         push_name(self.json, self.start, key)?;
         Ok(self.json)
@@ -232,11 +216,7 @@ impl<'a> JsonObjectWriter<'a> {
     /// Adds what stands before the next member's value: a comma unless it is the first, its name and a
     /// colon.
     pub fn begin_member(&mut self, key: &str) -> Result<(), AllocError>
-        ensures same_borrow { object_borrow self.new ≡ object_borrow self.old }
-        ensures same_start { object_start self.new ≡ object_start self.old }
-        ensures ok { OnOk result (object_text self.new ≡ object_text self.old
-            ++ (separator (object_start self.old) (object_text self.old) ++ name_text key.now)) }
-        ensures err { OnErr result (object_text self.new ≡ object_text self.old) }
+        ensures { AddsTo seen_object (before_member key.now self.old) self.old result self.new }
     {
         push_name(self.json, self.start, key)
     }

@@ -3,9 +3,9 @@
 ghost use Rattle.std.specs.Prelude.{◌≡◌, ◌≤◌, ◌<◌, ◌+◌, ℕ, Bool, List, length, drop, slice_index, slice_range, ◌∷◌, Some, option_map, IfSome, ◌||◌, false};
 ghost use Rattle.smithy_json_grammar.specs.Ascii.{is_e, quotation_mark};
 ghost use Rattle.smithy_json_tokens.specs.Tokens.{JsonToken, value_string, object_key};
-ghost use Rattle.smithy_json_tokens.specs.TokenRules.{is_boundary_byte, is_piece, at_boundary, scan_literal, number_length, run_token, scan_number, text_length, scan_string, scan_value, scan_key};
+ghost use Rattle.smithy_json_tokens.specs.TokenRules.{is_boundary_byte, is_piece, at_boundary, number_length, run_token, text_length, scan_string, scan_value, scan_key};
 ghost use Rattle.smithy_json_tokens.specs.TokenView.{token_view, token_offset};
-ghost use Rattle.smithy_json_tokens.specs.Private.Scans.{ScansAt, text_scan_of, AreTextPlaces, BeginsNumber};
+ghost use Rattle.smithy_json_tokens.specs.Private.Scans.{ScansAt, ScansLiteral, ScansNumber, text_scan_of, AreTextPlaces, BeginsNumber};
 
 use crate::error::{DeserializeError, DeserializeErrorKind};
 use crate::run_token::{run_token, whole_token};
@@ -64,7 +64,7 @@ fn literal_at<'a>(
 ) -> Result<Scanned<'a>, DeserializeError>
     requires within { token_offset token ≤ length input.now }
     requires some { 0 < length literal.now }
-    ensures { ScansAt input.now (token_offset token.entry) result (scan_literal literal.now (token_view token.entry) (drop (token_offset token.entry) input.now)) }
+    ensures { ScansLiteral literal.now token.entry input.now result }
 {
     let at = token.offset().0;
     if input.len() - at < literal.len() {
@@ -86,7 +86,7 @@ fn scan_literal<'a>(
 ) -> Result<Scanned<'a>, DeserializeError>
     requires within { token_offset token ≤ length input.now }
     requires some { 0 < length literal.now }
-    ensures { ScansAt input.now (token_offset token.entry) result (scan_literal literal.now (token_view token.entry) (drop (token_offset token.entry) input.now)) }
+    ensures { ScansLiteral literal.now token.entry input.now result }
 {
     let scanned = literal_at(input, literal, token)?;
     Ok(scanned)
@@ -180,7 +180,7 @@ fn scan_name<'a>(input: &'a [u8], at: usize) -> Result<Scanned<'a>, DeserializeE
 fn scan_number<'a>(input: &'a [u8], at: usize) -> Result<Scanned<'a>, DeserializeError>
     requires within { at < length input.now }
     requires begins { BeginsNumber (slice_index input.now at) }
-    ensures { ScansAt input.now at result (scan_number (slice_index input.now at) (drop (at + 1) input.now)) }
+    ensures { ScansNumber input.now at result }
 {
     if let Some((value, end)) = read_long(input, at) {
         let token = whole_token(input[at] == b'-', value, at);
@@ -194,7 +194,7 @@ fn scan_number<'a>(input: &'a [u8], at: usize) -> Result<Scanned<'a>, Deserializ
 fn scan_any_number<'a>(input: &'a [u8], at: usize) -> Result<Scanned<'a>, DeserializeError>
     requires within { at < length input.now }
     requires begins { BeginsNumber (slice_index input.now at) }
-    ensures { ScansAt input.now at result (scan_number (slice_index input.now at) (drop (at + 1) input.now)) }
+    ensures { ScansNumber input.now at result }
 {
     let scanned = scan_run(input, at)?;
     Ok(scanned)
@@ -204,7 +204,7 @@ fn scan_any_number<'a>(input: &'a [u8], at: usize) -> Result<Scanned<'a>, Deseri
 fn scan_run<'a>(input: &'a [u8], at: usize) -> Result<Scanned<'a>, DeserializeError>
     requires within { at < length input.now }
     requires begins { BeginsNumber (slice_index input.now at) }
-    ensures { ScansAt input.now at result (scan_number (slice_index input.now at) (drop (at + 1) input.now)) }
+    ensures { ScansNumber input.now at result }
 {
     let end = number_end(input, at + 1);
     match run_token(&input[at..end], at) {

@@ -35,13 +35,12 @@ pub struct Schema<'a> {
 }
 
 impl<'a> Schema<'a> {
-    ghost use Rattle.std.specs.Prelude.{◌↔◌, ◌≤◌, [], Some, IsTrue, IfSome, length, map};
-    ghost use Rattle.std.specs.Option.{option_map_or};
+    ghost use Rattle.std.specs.Prelude.{◌↔◌, ◌≤◌, Some, IsTrue, length, map};
     ghost use Rattle.smithy_declarations.specs.Table.{Member, type_of, members_of, IsSparse, json_name_of, is_document_target};
     ghost use Rattle.smithy_shapes.specs.Targets.{is_timestamp_target};
     ghost use Rattle.smithy_shapes.specs.Holding.{may_hold};
     ghost use Rattle.smithy_shapes.specs.Views.{member_of};
-    ghost use Rattle.smithy_shapes.specs.Private.KnownMembers.{AreKnown};
+    ghost use Rattle.smithy_shapes.specs.Private.KnownMembers.{AreKnown, FindsMembers};
     ghost use Rattle.smithy_shapes.specs.Site.{site_of, kind_at, member_site, member_named, element_site, value_site, inner_site, key_site, nameless_site};
 
     /// The kind of the shape, of a member the kind of its target.
@@ -261,9 +260,7 @@ impl<'a> Schema<'a> {
 
     // The members of the structure or the union that stands at the place, if one does.
     pub(crate) fn members_at_place(&self) -> Option<&'a MemberList>
-        ensures few { IfSome result (λ m. length m.now.items.items ≤ 65535) }
-        ensures members { option_map_or (λ m. map member_of m.now.items.items) result [] ≡ members_of (kind_at (site_of self.now)) }
-        ensures known { IfSome result (λ m. AreKnown self.now.shapes.now m.now.items.items) }
+        ensures { FindsMembers self.now.shapes.now (kind_at (site_of self.now)) result }
     {
         match self.place.target {
             Target::Simple(_) => None,

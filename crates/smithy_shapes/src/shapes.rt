@@ -86,15 +86,14 @@ impl Model for Shapes {
 }
 
 impl Shapes {
-    ghost use Rattle.std.specs.Prelude.{◌≡◌, ◌≢◌, ◌<◌, ◌≤◌, [], length, map, option_map, slice_get, IfSome};
-    ghost use Rattle.std.specs.Option.{option_map_or};
+    ghost use Rattle.std.specs.Prelude.{◌≡◌, ◌≢◌, ◌<◌, length, map, option_map, slice_get, IfSome};
     ghost use Rattle.smithy_declarations.specs.declared.shape_type.ShapeRef.{ShapeRef};
     ghost use Rattle.smithy_declarations.specs.Table.{kind_of, shape_place, IsClosed, list_shape_of as list_at_kind, map_shape_of as map_at_kind, members_of, nothing, shape_declared, declared_as, is_document_target};
     ghost use Rattle.smithy_shapes.specs.Targets.{is_timestamp_target, table_has};
     ghost use Rattle.smithy_shapes.specs.Accepted.{IsAccepted};
     ghost use Rattle.smithy_shapes.specs.Site.{site_of, shape_site};
     ghost use Rattle.smithy_shapes.specs.Views.{shape_of, member_of, list_shape_of, map_shape_of};
-    ghost use Rattle.smithy_shapes.specs.Private.KnownMembers.{AreKnown};
+    ghost use Rattle.smithy_shapes.specs.Private.KnownMembers.{FindsMembers};
 
     /// The number of declarations.
     pub fn len(&self) -> usize
@@ -183,9 +182,7 @@ impl Shapes {
 
     // The members of the declaration of that number, if it is a structure or a union.
     pub(crate) fn members_at(&self, at: ShapeRef) -> Option<&MemberList>
-        ensures few { IfSome result (λ m. length m.now.items.items ≤ 65535) }
-        ensures members { option_map_or (λ m. map member_of m.now.items.items) result [] ≡ members_of (kind_of self.now (shape_place at.0)) }
-        ensures known { IfSome result (λ m. AreKnown self.now m.now.items.items) }
+        ensures { FindsMembers self.now (kind_of self.now (shape_place at.0)) result }
     {
         match self.shape_at(at) {
             Some(Shape::Structure(members)) => Some(members),

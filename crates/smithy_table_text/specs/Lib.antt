@@ -3,3 +3,4 @@ pub mod TableLines
 pub mod Writable
 -- words for private functions
 pub mod Comparing
+pub mod Parts

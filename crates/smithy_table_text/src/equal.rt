@@ -3,6 +3,7 @@ ghost use Rattle.std.specs.Prelude.{◌≡◌, map as list_map, string_bytes, op
 ghost use Rattle.std.specs.Cmp.Lexicographic.{pointwise};
 ghost use Rattle.smithy_declarations.specs.Decl.{structure, union, list, map};
 ghost use Rattle.smithy_declarations.specs.DeclViews.{decl_of, member_decl_of};
+ghost use Rattle.smithy_table_text.specs.Parts.{list_of, map_of};
 ghost use Rattle.smithy_table_text.specs.Comparing.{same_option, same_flag, same_member, same_members, same_form, same_decl};
 
 use smithy_shapes::{Decl, MemberDecl};
@@ -104,12 +105,7 @@ fn is_list(
     xml: &Option<String>,
     time: &Option<String>,
 ) -> bool
-    ensures { result ≡ same_form (list (record {
-      target = target.now;
-      is_sparse = sparse;
-      xml = option_map string_bytes xml.now;
-      time = option_map string_bytes time.now;
-    })) (decl_of decl.now).form }
+    ensures { result ≡ same_form (list (list_of target.now sparse xml.now time.now)) (decl_of decl.now).form }
 {
     match decl {
         Decl::List {
@@ -139,13 +135,7 @@ fn is_map(
     value: &Option<String>,
     time: &Option<String>,
 ) -> bool
-    ensures { result ≡ same_form (map (record {
-      target = target.now;
-      is_sparse = sparse;
-      key = option_map string_bytes key.now;
-      value = option_map string_bytes value.now;
-      time = option_map string_bytes time.now;
-    })) (decl_of decl.now).form }
+    ensures { result ≡ same_form (map (map_of target.now sparse key.now value.now time.now)) (decl_of decl.now).form }
 {
     match decl {
         Decl::Map {

@@ -1,6 +1,7 @@
 //! The lines of declarations.
 ghost use Rattle.std.specs.Prelude.{◌≡◌, ◌++◌, map as list_map, option_map, string_bytes, flat_map, IfOk, OnOk};
 ghost use Rattle.smithy_declarations.specs.DeclViews.{member_decl_of, decl_of};
+ghost use Rattle.smithy_table_text.specs.Parts.{list_of, map_of};
 ghost use Rattle.smithy_table_text.specs.TableLines.{option_text, flag_text, member_options, member_line, list_line, map_line, decl_lines, table_text};
 
 use smithy_shapes::{Decl, MemberDecl};
@@ -64,12 +65,7 @@ fn write_list(
     xml: &Option<String>,
     time: &Option<String>,
 ) -> Result<(), AllocError>
-    ensures { OnOk result (out.new.items ≡ out.old.items ++ list_line (record {
-      target = target.now;
-      is_sparse = sparse;
-      xml = option_map string_bytes xml.now;
-      time = option_map string_bytes time.now;
-    })) }
+    ensures { OnOk result (out.new.items ≡ out.old.items ++ list_line (list_of target.now sparse xml.now time.now)) }
 {
     put_named(out, " ", target)?;
     put_flag(out, " sparse", sparse)?;
@@ -87,13 +83,7 @@ fn write_map(
     value: &Option<String>,
     time: &Option<String>,
 ) -> Result<(), AllocError>
-    ensures { OnOk result (out.new.items ≡ out.old.items ++ map_line (record {
-      target = target.now;
-      is_sparse = sparse;
-      key = option_map string_bytes key.now;
-      value = option_map string_bytes value.now;
-      time = option_map string_bytes time.now;
-    })) }
+    ensures { OnOk result (out.new.items ≡ out.old.items ++ map_line (map_of target.now sparse key.now value.now time.now)) }
 {
     put_named(out, " ", target)?;
     put_flag(out, " sparse", sparse)?;

@@ -55,11 +55,11 @@ impl From<AllocError> for DocumentError {
 }
 
 impl DocumentError {
-    ghost use Rattle.smithy_types.specs.DocumentFault.{fault_of, type_mismatch, overflow, invalid_input, stated, unsupported};
+    ghost use Rattle.smithy_types.specs.declared.document_error.DocumentError.TheVariants.{TypeMismatch, NumericCoercionOverflow, InvalidInput, Custom, UnsupportedOperation};
 
     /// The document is of another type than the wanted one.
     pub fn type_mismatch(message: CowStr<'static>) -> DocumentError
-        ensures { fault_of result ≡ type_mismatch }
+        ensures { result ≡ TypeMismatch message.entry }
     {
         DocumentError::TypeMismatch { message }
     }
@@ -69,28 +69,28 @@ impl DocumentError {
         target: CowStr<'static>,
         value: CowStr<'static>,
     ) -> DocumentError
-        ensures { fault_of result ≡ overflow }
+        ensures { result ≡ NumericCoercionOverflow target.entry value.entry }
     {
         DocumentError::NumericCoercionOverflow { target, value }
     }
 
     /// A text or a number stands for no value of the wanted type.
     pub fn invalid_input(message: CowStr<'static>) -> DocumentError
-        ensures { fault_of result ≡ invalid_input }
+        ensures { result ≡ InvalidInput message.entry }
     {
         DocumentError::InvalidInput { message }
     }
 
     /// A fault that the caller states.
     pub fn custom(message: CowStr<'static>) -> DocumentError
-        ensures { fault_of result ≡ stated }
+        ensures { result ≡ Custom message.entry }
     {
         DocumentError::Custom { message }
     }
 
     /// The settings don't say what the document stands for.
     pub fn unsupported(message: CowStr<'static>) -> DocumentError
-        ensures { fault_of result ≡ unsupported }
+        ensures { result ≡ UnsupportedOperation message.entry }
     {
         DocumentError::UnsupportedOperation { message }
     }

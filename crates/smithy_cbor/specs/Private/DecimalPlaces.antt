@@ -1,15 +1,14 @@
 -- The array of a decimal fraction at a place.
-use Rattle.std.specs.Prelude.{◌≡◌, ◌+◌, ℕ, ℤ, List, ◌∷◌, Some, drop}
+use Rattle.std.specs.Prelude.{◌≡◌, ℕ, ℤ, List, Some}
 use Rattle.cbor_item.specs.Item.{Item, Extent, array, item, no_items}
-use Rattle.cbor_item.specs.WellFormed.{break, IsItemAt}
+use Rattle.cbor_item.specs.WellFormed.{IsItemAt}
 use Rattle.smithy_cbor.specs.Scalar.{integer_of, big_integer_of}
-use Rattle.smithy_cbor.specs.Reading.{AreParts}
+use Rattle.smithy_cbor.specs.Reading.{AreParts, IsBreakAt}
 
 -- an exponent, a mantissa and a break stand there in turn
 abbrev pub ArePartsUntilBreak : ℤ → ℤ → List ℕ → ℕ → ℕ → Type 0
 ArePartsUntilBreak exponent mantissa input at end =
-    (stop : ℕ) × AreParts exponent mantissa input at stop × (end ≡ stop + 1)
-    × (drop stop input ≡ break ∷ drop end input)
+    (stop : ℕ) × AreParts exponent mantissa input at stop × IsBreakAt input stop end
 
 -- an array of exponent and mantissa stands there
 abbrev pub IsPairAt : ℤ → ℤ → List ℕ → ℕ → ℕ → Type 0

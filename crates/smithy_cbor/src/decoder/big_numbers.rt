@@ -1,6 +1,6 @@
 //! Big integers and decimals, as their canonical texts.
 
-ghost use Rattle.std.specs.Prelude.{◌≡◌, IfOk, IfErr, OnErr};
+ghost use Rattle.std.specs.Prelude.{◌≡◌};
 
 use super::Decoder;
 use crate::decimal::{decimal_at, exponent_of};
@@ -11,16 +11,14 @@ use smithy_types::{BigDecimal, BigInteger};
 use std::alloc::Global;
 
 impl Decoder<'_> {
-    ghost use Rattle.smithy_cbor.specs.DecoderView.{position_of, Reads, IsRefusal};
+    ghost use Rattle.smithy_cbor.specs.DecoderView.{position_of, Decodes};
     ghost use Rattle.smithy_cbor.specs.Reading.{IsBigIntegerText, IsBigIntegerFault, IsDecimalText, IsDecimalFault};
     ghost use Rattle.smithy_cbor.specs.declared.error.DecodeKind.TheVariants.{TooWide};
     ghost use Rattle.std.specs.Prelude.{Some};
 
     /// An integer, or a bignum under tag 2 or 3 whose byte string is definite.
     pub fn big_integer(&mut self, alloc: Global) -> Result<BigInteger, DeserializeError>
-        ensures read { IfOk result (λ n. Reads (IsBigIntegerText n) self.old self.new) }
-        ensures refused { IfErr result (IsRefusal IsBigIntegerFault self.old) }
-        ensures stays { OnErr result (self.new ≡ self.old) }
+        ensures { Decodes IsBigIntegerText IsBigIntegerFault self.old result self.new }
     {
         let (value, end) = match big_integer_at(self.bytes, self.position) {
             Ok(found) => found,
@@ -40,9 +38,7 @@ impl Decoder<'_> {
 
     /// A decimal fraction: tag 4 and an array of an exponent and a mantissa.
     pub fn big_decimal(&mut self, alloc: Global) -> Result<BigDecimal, DeserializeError>
-        ensures read { IfOk result (λ n. Reads (IsDecimalText n) self.old self.new) }
-        ensures refused { IfErr result (IsRefusal IsDecimalFault self.old) }
-        ensures stays { OnErr result (self.new ≡ self.old) }
+        ensures { Decodes IsDecimalText IsDecimalFault self.old result self.new }
     {
         let (exponent, mantissa, end) = match decimal_at(self.bytes, self.position) {
             Ok(found) => found,

@@ -1,6 +1,6 @@
 //! Dates and instants, in whole seconds.
 
-ghost use Rattle.std.specs.Prelude.{◌≡◌, IfOk, IfErr, OnErr};
+ghost use Rattle.std.specs.Prelude.{◌≡◌};
 
 use super::Decoder;
 use crate::error::{DecodeKind, DeserializeError};
@@ -8,16 +8,14 @@ use crate::tagged::date_at;
 use smithy_types::DateTime;
 
 impl Decoder<'_> {
-    ghost use Rattle.smithy_cbor.specs.DecoderView.{position_of, Reads, IsRefusal};
-    ghost use Rattle.smithy_cbor.specs.Reading.{IsDateAt, IsNoDate, IsInstantAt, IsInstantFault, IsKindOf};
+    ghost use Rattle.smithy_cbor.specs.DecoderView.{position_of, Decodes, IsKindAt};
+    ghost use Rattle.smithy_cbor.specs.Reading.{IsDateAt, IsNoDate, IsInstantAt, IsInstantFault};
     ghost use Rattle.smithy_cbor.specs.declared.error.DecodeKind.TheVariants.{NotCarried};
     ghost use Rattle.std.specs.Prelude.{Some};
 
     /// The seconds of a date (tag 1), or none where they are a float. The position goes past the date in both cases.
     pub fn date(&mut self) -> Result<Option<i128>, DeserializeError>
-        ensures read { IfOk result (λ seconds. Reads (IsDateAt seconds) self.old self.new) }
-        ensures refused { IfErr result (IsRefusal (λ input at. IsKindOf (IsNoDate input at)) self.old) }
-        ensures stays { OnErr result (self.new ≡ self.old) }
+        ensures { Decodes IsDateAt (IsKindAt IsNoDate) self.old result self.new }
     {
         match date_at(self.bytes, self.position) {
             Ok((seconds, end)) => {
@@ -30,9 +28,7 @@ impl Decoder<'_> {
 
     /// Whole seconds after the epoch, under tag 1. A float there is not carried.
     pub fn timestamp(&mut self) -> Result<DateTime, DeserializeError>
-        ensures read { IfOk result (λ d. Reads (IsInstantAt d) self.old self.new) }
-        ensures refused { IfErr result (IsRefusal IsInstantFault self.old) }
-        ensures stays { OnErr result (self.new ≡ self.old) }
+        ensures { Decodes IsInstantAt IsInstantFault self.old result self.new }
     {
         let (seconds, end) = match date_at(self.bytes, self.position) {
             Ok(found) => found,

@@ -1,6 +1,6 @@
 //! Integers, each within its width.
 
-ghost use Rattle.std.specs.Prelude.{◌≡◌, ◌≤◌, IfOk, IfErr, IfSome, IfNone, OnErr, Some, FitsSigned, drop};
+ghost use Rattle.std.specs.Prelude.{◌≡◌, ◌≤◌, IfOk, IfErr, IfSome, IfNone, Some, FitsSigned, drop};
 ghost use Rattle.cbor_item.specs.Head.{BeginsWithHead};
 ghost use Rattle.smithy_cbor.specs.Private.HeadNumber.{number_of};
 ghost use Rattle.smithy_cbor.specs.declared.error.DecodeKind.TheVariants.{OutOfRange};
@@ -28,14 +28,12 @@ impl Integer {
 }
 
 impl Decoder<'_> {
-    ghost use Rattle.smithy_cbor.specs.DecoderView.{input_of, position_of, Reads, IsRefusal};
+    ghost use Rattle.smithy_cbor.specs.DecoderView.{input_of, position_of, Decodes, IsRefusal};
     ghost use Rattle.smithy_cbor.specs.Reading.{IsIntegerAt, IsIntegerFault};
 
     /// An integer from -2^7 to 2^7-1, whatever width its head has.
     pub fn byte(&mut self) -> Result<i8, DeserializeError>
-        ensures read { IfOk result (λ z. Reads (IsIntegerAt z) self.old self.new) }
-        ensures refused { IfErr result (IsRefusal (IsIntegerFault w8) self.old) }
-        ensures stays { OnErr result (self.new ≡ self.old) }
+        ensures { Decodes IsIntegerAt (IsIntegerFault w8) self.old result self.new }
     {
         let Integer { value, end } = self.integer_here()?;
         match i8::try_from(value) {
@@ -49,9 +47,7 @@ impl Decoder<'_> {
 
     /// An integer from -2^15 to 2^15-1, whatever width its head has.
     pub fn short(&mut self) -> Result<i16, DeserializeError>
-        ensures read { IfOk result (λ z. Reads (IsIntegerAt z) self.old self.new) }
-        ensures refused { IfErr result (IsRefusal (IsIntegerFault w16) self.old) }
-        ensures stays { OnErr result (self.new ≡ self.old) }
+        ensures { Decodes IsIntegerAt (IsIntegerFault w16) self.old result self.new }
     {
         let Integer { value, end } = self.integer_here()?;
         match i16::try_from(value) {
@@ -65,9 +61,7 @@ impl Decoder<'_> {
 
     /// An integer from -2^31 to 2^31-1, whatever width its head has.
     pub fn integer(&mut self) -> Result<i32, DeserializeError>
-        ensures read { IfOk result (λ z. Reads (IsIntegerAt z) self.old self.new) }
-        ensures refused { IfErr result (IsRefusal (IsIntegerFault w32) self.old) }
-        ensures stays { OnErr result (self.new ≡ self.old) }
+        ensures { Decodes IsIntegerAt (IsIntegerFault w32) self.old result self.new }
     {
         let Integer { value, end } = self.integer_here()?;
         match i32::try_from(value) {
@@ -81,9 +75,7 @@ impl Decoder<'_> {
 
     /// An integer from -2^63 to 2^63-1, whatever width its head has.
     pub fn long(&mut self) -> Result<i64, DeserializeError>
-        ensures read { IfOk result (λ z. Reads (IsIntegerAt z) self.old self.new) }
-        ensures refused { IfErr result (IsRefusal (IsIntegerFault w64) self.old) }
-        ensures stays { OnErr result (self.new ≡ self.old) }
+        ensures { Decodes IsIntegerAt (IsIntegerFault w64) self.old result self.new }
     {
         let Integer { value, end } = self.integer_here()?;
         self.position = end;

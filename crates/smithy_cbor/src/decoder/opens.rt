@@ -1,12 +1,12 @@
 //! Arrays, maps, breaks, and the simple values.
 
-ghost use Rattle.std.specs.Prelude.{◌≡◌, ◌≤◌, ◌+◌, ◌⊎◌, ◌↔◌, ◌∷◌, IfOk, IfErr, IsTrue, OnOk, OnErr, drop, length};
+ghost use Rattle.std.specs.Prelude.{◌≡◌, ◌+◌, ◌↔◌, IfOk, IfErr, IsTrue, drop, length};
 ghost use Rattle.cbor_item.specs.Head.{BeginsWithHead};
 ghost use Rattle.cbor_item.specs.HeadView.{head_read};
 ghost use Rattle.cbor_item.specs.Item.{simple};
-ghost use Rattle.cbor_item.specs.WellFormed.{break, IsItemAt};
-ghost use Rattle.smithy_cbor.specs.Reading.{OpensAt, IsKindOf, IsHeadFault, IsOfType, IsSimpleHead, IsBreakHead};
-ghost use Rattle.smithy_cbor.specs.Scalar.{boolean_item, false_value, true_value, null_value};
+ghost use Rattle.cbor_item.specs.WellFormed.{IsItemAt};
+ghost use Rattle.smithy_cbor.specs.Reading.{OpensAt, IsHeadFault, IsOfType, IsSimpleHead, IsBooleanHead, IsBreakAt, IsBreakHead};
+ghost use Rattle.smithy_cbor.specs.Scalar.{boolean_item, null_value};
 
 use super::Decoder;
 use crate::error::DeserializeError;
@@ -15,13 +15,11 @@ use crate::initial::{ARRAY, FALSE, MAP, NULL, SIMPLE, TRUE};
 use cbor_item::{Head, ItemError, read_head};
 
 impl Decoder<'_> {
-    ghost use Rattle.smithy_cbor.specs.DecoderView.{input_of, position_of, Reads, IsRefusal};
+    ghost use Rattle.smithy_cbor.specs.DecoderView.{input_of, position_of, Decodes, IsRefusal, IsKindAt};
 
     /// Begins an array: how many items its head announces, or `None` where a break ends it.
     pub fn list(&mut self) -> Result<Option<u64>, DeserializeError>
-        ensures read { IfOk result (λ count. Reads (OpensAt 4 count) self.old self.new) }
-        ensures refused { IfErr result (IsRefusal (λ input at. IsKindOf (IsHeadFault (IsOfType 4) input at)) self.old) }
-        ensures stays { OnErr result (self.new ≡ self.old) }
+        ensures { Decodes (OpensAt 4) (IsKindAt (IsHeadFault (IsOfType 4))) self.old result self.new }
     {
         let head = self.head_of_type(ARRAY)?;
         self.position += usize::from(head.length);
@@ -30,9 +28,7 @@ impl Decoder<'_> {
 
     /// Begins a map: how many keys its head announces, or `None` where a break ends it.
     pub fn map(&mut self) -> Result<Option<u64>, DeserializeError>
-        ensures read { IfOk result (λ count. Reads (OpensAt 5 count) self.old self.new) }
-        ensures refused { IfErr result (IsRefusal (λ input at. IsKindOf (IsHeadFault (IsOfType 5) input at)) self.old) }
-        ensures stays { OnErr result (self.new ≡ self.old) }
+        ensures { Decodes (OpensAt 5) (IsKindAt (IsHeadFault (IsOfType 5))) self.old result self.new }
     {
         let head = self.head_of_type(MAP)?;
         self.position += usize::from(head.length);
@@ -41,9 +37,7 @@ impl Decoder<'_> {
 
     /// Goes past a null.
     pub fn null(&mut self) -> Result<(), DeserializeError>
-        ensures read { OnOk result (Reads (IsItemAt (simple null_value)) self.old self.new) }
-        ensures refused { IfErr result (IsRefusal (λ input at. IsKindOf (IsHeadFault (IsSimpleHead null_value) input at)) self.old) }
-        ensures stays { OnErr result (self.new ≡ self.old) }
+        ensures { Decodes (λ _. IsItemAt (simple null_value)) (IsKindAt (IsHeadFault (IsSimpleHead null_value))) self.old result self.new }
     {
         match read_head(self.bytes, self.position) {
             Ok(head) if is_simple(head, NULL) => {
@@ -57,9 +51,7 @@ impl Decoder<'_> {
 
     /// False or true.
     pub fn boolean(&mut self) -> Result<bool, DeserializeError>
-        ensures read { IfOk result (λ b. Reads (IsItemAt (boolean_item b)) self.old self.new) }
-        ensures refused { IfErr result (IsRefusal (λ input at. IsKindOf (IsHeadFault (λ h. IsSimpleHead false_value h ⊎ IsSimpleHead true_value h) input at)) self.old) }
-        ensures stays { OnErr result (self.new ≡ self.old) }
+        ensures { Decodes (λ b. IsItemAt (boolean_item b)) (IsKindAt (IsHeadFault IsBooleanHead)) self.old result self.new }
     {
         let value = self.boolean_here()?;
         self.position += 1;
@@ -69,7 +61,7 @@ impl Decoder<'_> {
     // The boolean that stands here.
     fn boolean_here(&self) -> Result<bool, DeserializeError>
         ensures found { IfOk result (λ b. IsItemAt (boolean_item b) (input_of self.now) (position_of self.now) (position_of self.now + 1)) }
-        ensures refused { IfErr result (IsRefusal (λ input at. IsKindOf (IsHeadFault (λ h. IsSimpleHead false_value h ⊎ IsSimpleHead true_value h) input at)) self.now) }
+        ensures refused { IfErr result (IsRefusal (IsKindAt (IsHeadFault IsBooleanHead)) self.now) }
     {
         match read_head(self.bytes, self.position) {
             Ok(head) if is_simple(head, FALSE) => Ok(false),
@@ -81,9 +73,7 @@ impl Decoder<'_> {
 
     /// Goes past the break that ends an array or a map of indefinite length.
     pub fn read_break(&mut self) -> Result<(), DeserializeError>
-        ensures read { OnOk result (Reads (λ input at end. (end ≡ at + 1) × (drop at input ≡ break ∷ drop end input)) self.old self.new) }
-        ensures refused { IfErr result (IsRefusal (λ input at. IsKindOf (IsHeadFault IsBreakHead input at)) self.old) }
-        ensures stays { OnErr result (self.new ≡ self.old) }
+        ensures { Decodes (λ _. IsBreakAt) (IsKindAt (IsHeadFault IsBreakHead)) self.old result self.new }
     {
         match break_at(self.bytes, self.position) {
             Ok(end) => {
@@ -97,7 +87,7 @@ impl Decoder<'_> {
     // The head that begins here, of the major type.
     fn head_of_type(&self, major: u8) -> Result<Head, DeserializeError>
         ensures found { IfOk result (λ head. BeginsWithHead (drop (position_of self.now) (input_of self.now)) (head_read head) × (head.major ≡ major)) }
-        ensures refused { IfErr result (IsRefusal (λ input at. IsKindOf (IsHeadFault (IsOfType major) input at)) self.now) }
+        ensures refused { IfErr result (IsRefusal (IsKindAt (IsHeadFault (IsOfType major))) self.now) }
     {
         match read_head(self.bytes, self.position) {
             Ok(head) if head.major == major => Ok(head),

@@ -1,6 +1,6 @@
 //! Texts and bytes.
 
-ghost use Rattle.std.specs.Prelude.{◌≡◌, IfOk, IfErr, OnErr, string_bytes};
+ghost use Rattle.std.specs.Prelude.{◌≡◌, IfOk, string_bytes};
 ghost use Rattle.std.specs.Cow.{cow_slice_items};
 ghost use Rattle.cbor_item.specs.Fault.{IsStringFault};
 ghost use Rattle.cbor_item.specs.Strings.{IsTextAt, IsTextFault};
@@ -13,14 +13,12 @@ use std::alloc::{AllocError, Global};
 use std::borrow::{CowSlice, CowStr};
 
 impl<'b> Decoder<'b> {
-    ghost use Rattle.smithy_cbor.specs.DecoderView.{input_of, position_of, Reads, IsRefusal};
-    ghost use Rattle.smithy_cbor.specs.Reading.{IsTextOf, AreBytesOf, IsKindOf};
+    ghost use Rattle.smithy_cbor.specs.DecoderView.{Decodes, IsKindAt};
+    ghost use Rattle.smithy_cbor.specs.Reading.{IsTextOf, AreBytesOf};
 
     /// A text: borrowed from the input exactly where it stands there in one piece.
     pub fn str(&mut self, alloc: Global) -> Result<CowStr<'b>, DeserializeError>
-        ensures read { IfOk result (λ text. Reads (λ input at end. IsTextAt input at text end) self.old self.new) }
-        ensures refused { IfErr result (IsRefusal (λ input at. IsKindOf (IsTextFault input at)) self.old) }
-        ensures stays { OnErr result (self.new ≡ self.old) }
+        ensures { Decodes (λ text input at end. IsTextAt input at text end) (IsKindAt IsTextFault) self.old result self.new }
     {
         match text_chunks(alloc, self.bytes, self.position) {
             Ok((text, end)) => {
@@ -33,9 +31,7 @@ impl<'b> Decoder<'b> {
 
     /// A text, copied.
     pub fn string(&mut self, alloc: Global) -> Result<String, DeserializeError>
-        ensures read { IfOk result (λ text. Reads (IsTextOf (string_bytes text)) self.old self.new) }
-        ensures refused { IfErr result (IsRefusal (λ input at. IsKindOf (IsTextFault input at)) self.old) }
-        ensures stays { OnErr result (self.new ≡ self.old) }
+        ensures { Decodes (λ text. IsTextOf (string_bytes text)) (IsKindAt IsTextFault) self.old result self.new }
     {
         match text_chunks(alloc, self.bytes, self.position) {
             Ok((text, end)) => match text.into_owned(alloc) {
@@ -51,9 +47,7 @@ impl<'b> Decoder<'b> {
 
     /// The bytes of a byte string, in one piece or in chunks.
     pub fn blob(&mut self, alloc: Global) -> Result<Blob, DeserializeError>
-        ensures read { IfOk result (λ blob. Reads (AreBytesOf blob) self.old self.new) }
-        ensures refused { IfErr result (IsRefusal (λ input at. IsKindOf (IsStringFault 2 input at)) self.old) }
-        ensures stays { OnErr result (self.new ≡ self.old) }
+        ensures { Decodes AreBytesOf (IsKindAt (IsStringFault 2)) self.old result self.new }
     {
         match byte_chunks(alloc, self.bytes, self.position) {
             Ok((bytes, end)) => match owned_bytes(alloc, bytes) {

@@ -20,7 +20,7 @@ returns-in-Ok c =
       broken = search rules;
       ok = rw c.succeed.ensures (
           number_written (mantissa text) (made (big_decimal_of site text) s) (after_value s.frames) after _ c.in_ok-begin_value.ensures.taken
-          (wrote_is s site.view bytes _ after _ _ c.in_ok-begin_value.ensures.same (c.in-Ok.ensures.ok ∙ ap (λ o. o ++ bytes) c.in_ok-begin_value.ensures.lead) c.in_ok-begin_value.ensures.lengths) c.in-Ok.ensures.wide.1);
+          (wrote_is s site.view bytes _ after _ _ c.in_ok-begin_value.ensures.same (c.in-Ok.ensures.appends.ok ∙ ap (λ o. o ++ bytes) c.in_ok-begin_value.ensures.lead) c.in_ok-begin_value.ensures.lengths) c.in-Ok.ensures.wide.1);
       refused = search rules;
     }
 

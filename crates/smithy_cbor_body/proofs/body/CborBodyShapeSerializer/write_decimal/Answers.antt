@@ -26,6 +26,6 @@ returns c =
       broken = search rules;
       ok = rw c.succeed.ensures (
           call_written (made (scalar_of site (decimal m e)) s) (after_value s.frames) after _ c.in_ok-begin_value.ensures.taken
-          (wrote_is s site.view bytes _ after _ _ c.in_ok-begin_value.ensures.same (c.in_ok-decimal_fraction.ensures.ok ∙ same ∙ ap (λ o. o ++ bytes) c.in_ok-begin_value.ensures.lead) c.in_ok-begin_value.ensures.lengths));
+          (wrote_is s site.view bytes _ after _ _ c.in_ok-begin_value.ensures.same (c.in_ok-decimal_fraction.ensures.appends.ok ∙ same ∙ ap (λ o. o ++ bytes) c.in_ok-begin_value.ensures.lead) c.in_ok-begin_value.ensures.lengths));
       refused = search rules;
     }

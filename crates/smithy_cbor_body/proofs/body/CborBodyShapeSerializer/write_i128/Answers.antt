@@ -22,6 +22,6 @@ returns c =
       broken = search rules;
       ok = rw c.succeed.ensures (
           call_written (made (scalar_of site (whole c.args.value)) s) (after_value s.frames) after _ c.in_ok-begin_value.ensures.taken
-          (wrote_is s site.view bytes _ after _ _ c.in_ok-begin_value.ensures.same (c.in_ok-whole.ensures.ok ∙ same ∙ ap (λ o. o ++ bytes) c.in_ok-begin_value.ensures.lead) c.in_ok-begin_value.ensures.lengths));
+          (wrote_is s site.view bytes _ after _ _ c.in_ok-begin_value.ensures.same (c.in_ok-whole.ensures.appends.ok ∙ same ∙ ap (λ o. o ++ bytes) c.in_ok-begin_value.ensures.lead) c.in_ok-begin_value.ensures.lengths));
       refused = search rules;
     }

@@ -52,6 +52,6 @@ returns c =
       ok = rw c.succeed.ensures (
           instant_written s site n _ whole
           (call_written (made (scalar_of site (instant n)) s) (after_value s.frames) after _ c.in_ok-begin_value.ensures.taken
-          (wrote_is s site.view bytes _ after _ _ c.in_ok-begin_value.ensures.same (c.in_ok-timestamp.ensures.ok ∙ ap (λ o. o ++ bytes) c.in_ok-begin_value.ensures.lead) c.in_ok-begin_value.ensures.lengths)));
+          (wrote_is s site.view bytes _ after _ _ c.in_ok-begin_value.ensures.same (c.in_ok-timestamp.ensures.appends.ok ∙ ap (λ o. o ++ bytes) c.in_ok-begin_value.ensures.lead) c.in_ok-begin_value.ensures.lengths)));
       refused = search rules;
     }
