@@ -91,7 +91,7 @@ pub fn read_attribute_value<D: ShapeDeserializer>(
     requires due { (D.state source.old).due ≡ true }
     requires place { IsAttribute (site_of schema.now) }
     ensures same { D.settings source.new ≡ D.settings source.old }
-    ensures reads { ReadsAs (D.wire (D.settings source.old)) (D.state source.old) (D.state source.new) (site_of schema.now) attribute_value result }
+    ensures reads { ReadsAs (D.reading (D.settings source.old)).wire (D.state source.old) (D.state source.new) (site_of schema.now) attribute_value result }
 {
     source.open_struct(schema)?;
     let Step::Member(member) = source.next_member(schema)? else {
@@ -115,7 +115,7 @@ fn read_variant<D: ShapeDeserializer>(
     requires due { (D.state source.old).due ≡ true }
     requires place { IsVariant (site_of member.now) }
     ensures same { D.settings source.new ≡ D.settings source.old }
-    ensures reads { ReadsVariant (D.wire (D.settings source.old)) (D.state source.old) (D.state source.new) (site_of member.now) attribute_value result }
+    ensures reads { ReadsVariant (D.reading (D.settings source.old)).wire (D.state source.old) (D.state source.new) (site_of member.now) attribute_value result }
 {
     let position = member.member_index();
     if position == Some(0) {
@@ -148,7 +148,7 @@ pub fn read_attributes<D: ShapeDeserializer>(
     requires due { (D.state source.old).due ≡ true }
     requires place { AreEntries (site_of schema.now) }
     ensures same { D.settings source.new ≡ D.settings source.old }
-    ensures reads { ReadsAs (D.wire (D.settings source.old)) (D.state source.old) (D.state source.new) (site_of schema.now) (λ m. map (attribute_entries m.entries)) result }
+    ensures reads { ReadsAs (D.reading (D.settings source.old)).wire (D.state source.old) (D.state source.new) (site_of schema.now) (λ m. map (attribute_entries m.entries)) result }
 {
     let Some(inner) = schema.member() else {
         unreachable!()
@@ -187,7 +187,7 @@ fn read_attribute_list<D: ShapeDeserializer>(
     requires due { (D.state source.old).due ≡ true }
     requires place { AreElements (site_of schema.now) }
     ensures same { D.settings source.new ≡ D.settings source.old }
-    ensures reads { ReadsAs (D.wire (D.settings source.old)) (D.state source.old) (D.state source.new) (site_of schema.now) (λ v. list (values_of (attribute_values v.items))) result }
+    ensures reads { ReadsAs (D.reading (D.settings source.old)).wire (D.state source.old) (D.state source.new) (site_of schema.now) (λ v. list (values_of (attribute_values v.items))) result }
 {
     let Some(inner) = schema.member() else {
         unreachable!()

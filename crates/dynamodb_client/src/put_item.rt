@@ -95,7 +95,7 @@ pub fn read_put_item<D: ShapeDeserializer>(
     ensures same { D.settings source.new ≡ D.settings source.old }
 
     // What stood there is the structure of these fields, and a fault comes only where no such structure stands.
-    ensures reads { ReadsDueAs (D.wire (D.settings source.old)) (D.state source.old) (D.state source.new) (site_of schema.now) (λ input. structure_with (put_item_fields input)) result }
+    ensures reads { ReadsDueAs (D.reading (D.settings source.old)).wire (D.state source.old) (D.state source.new) (site_of schema.now) (λ input. structure_with (put_item_fields input)) result }
 {
     let mut input = PutItemInput {
         table_name: None,

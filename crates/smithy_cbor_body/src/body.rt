@@ -1,16 +1,16 @@
 //! Writing a body as a schema directs, without a prefix of its structures.
-ghost use Rattle.std.specs.Prelude.{◌⊎◌, ◌≡◌, ◌↔◌, ◌++◌, Ok, Err, true, false, OnOk, OnErr, IfErr, IsErr, IsErrOf};
-ghost use Rattle.smithy_schema.specs.declared.error.SerdeError.TheVariants.{Failed, NoMemory, TooWide};
+ghost use Rattle.std.specs.Prelude.{◌⊎◌, ◌≡◌, ◌++◌, Ok, Err, false, OnOk, OnErr};
+ghost use Rattle.smithy_schema.specs.declared.error.SerdeError.TheVariants.{NoMemory, TooWide};
 ghost use Rattle.smithy_cbor.specs.declared.error.EncodeError.TheVariants as encoding;
-ghost use Rattle.smithy_schema.specs.Errors.{IsFault};
 ghost use Rattle.smithy_shapes.specs.Site.{site_of};
-ghost use Rattle.smithy_schema.specs.Writing.{after_value, after_text};
+ghost use Rattle.smithy_schema.specs.Writing.{Makes, after_value, after_text};
 ghost use Rattle.smithy_cbor.specs.Written.{text_bytes, big_integer_bytes};
 ghost use Rattle.smithy_cbor_body.specs.Canonical.{key_bytes};
 ghost use Rattle.smithy_cbor_body.specs.Codec.{held_settings};
 ghost use Rattle.smithy_cbor_body.specs.Body.{body_of, body_has_failed};
-ghost use Rattle.smithy_cbor_body.specs.Lengths.{counted_in, may_end};
-ghost use Rattle.smithy_cbor_body.specs.Writing.{BodyState, fresh_body, key_in, lead, closed, where_taken, where_writable, body_after};
+ghost use Rattle.smithy_cbor_body.specs.Lengths.{may_end};
+ghost use Rattle.smithy_cbor_body.specs.Private.Beginning.{Begins};
+ghost use Rattle.smithy_cbor_body.specs.Writing.{BodyState, fresh_body, key_in, closed, where_taken, where_writable, body_after};
 ghost use Rattle.smithy_wire.specs.OpenContainers.{after_end};
 
 use crate::lengths::{Length, begin_array, begin_map, begun, count_value, is_complete, write_end};
@@ -79,13 +79,7 @@ impl CborBody {
     // value a key is due.
     #[inline(always)]
     fn begin_value(&mut self, schema: &Schema<'_>) -> Result<(), SerdeError>
-        ensures failed { IsErrOf result Failed ↔ (body_has_failed self.old ≡ true) }
-        ensures broken { body_has_failed self.new ≡ true }
-        ensures same { (body_of self.new).settings ≡ (body_of self.old).settings }
-        ensures lead { OnOk result ((body_of self.new).out ≡ (body_of self.old).out ++ lead (body_of self.old) (site_of schema.now).view) }
-        ensures taken { OnOk result (after_value (body_of self.old).frames ≡ Ok (body_of self.new).frames) }
-        ensures lengths { OnOk result ((body_of self.new).lengths ≡ counted_in (body_of self.old).frames (body_of self.old).lengths) }
-        ensures refused { IfErr result (λ e. IsFault e → after_value (body_of self.old).frames ≡ Err e) }
+        ensures { Begins (after_value (body_of self.old).frames) (body_of self.old) (body_has_failed self.old) (body_of self.new) (body_has_failed self.new) (site_of schema.now).view result }
     {
         self.containers.begin()?;
         if let Some(Container::List) = self.containers.innermost() {
@@ -102,13 +96,7 @@ impl CborBody {
 
     // Begins the call of a text, which is a key where a map's key is due: its value is due then.
     fn begin_text(&mut self, schema: &Schema<'_>) -> Result<(), SerdeError>
-        ensures failed { IsErrOf result Failed ↔ (body_has_failed self.old ≡ true) }
-        ensures broken { body_has_failed self.new ≡ true }
-        ensures same { (body_of self.new).settings ≡ (body_of self.old).settings }
-        ensures lead { OnOk result ((body_of self.new).out ≡ (body_of self.old).out ++ lead (body_of self.old) (site_of schema.now).view) }
-        ensures taken { OnOk result (after_text (body_of self.old).frames ≡ Ok (body_of self.new).frames) }
-        ensures lengths { OnOk result ((body_of self.new).lengths ≡ counted_in (body_of self.old).frames (body_of self.old).lengths) }
-        ensures refused { IfErr result (λ e. IsFault e → after_text (body_of self.old).frames ≡ Err e) }
+        ensures { Begins (after_text (body_of self.old).frames) (body_of self.old) (body_has_failed self.old) (body_of self.new) (body_has_failed self.new) (site_of schema.now).view result }
     {
         if let Some(Container::MapAtKey) = self.containers.innermost() {
             self.containers.begin()?;
@@ -120,10 +108,7 @@ impl CborBody {
 
     // Ends the innermost container, which has to be of this kind and, where its length is written, to be of this length.
     fn end_container(&mut self, container: Container) -> Result<(), SerdeError>
-        ensures failed { IsErrOf result Failed ↔ (body_has_failed self.old ≡ true) }
-        ensures broken { IsErr result ↔ (body_has_failed self.new ≡ true) }
-        ensures ok { OnOk result (where_writable (may_end (body_of self.old).lengths) (where_taken (closed (body_of self.old)) (after_end container (body_of self.old).frames)) ≡ Ok (body_of self.new)) }
-        ensures refused { IfErr result (λ e. IsFault e → where_writable (may_end (body_of self.old).lengths) (where_taken (closed (body_of self.old)) (after_end container (body_of self.old).frames)) ≡ Err e) }
+        ensures { Makes (where_writable (may_end (body_of self.old).lengths) (where_taken (closed (body_of self.old)) (after_end container (body_of self.old).frames))) (body_has_failed self.old) (body_of self.new) (body_has_failed self.new) result }
     {
         self.containers.begin()?;
         let length = self.containers.pop(container)?;

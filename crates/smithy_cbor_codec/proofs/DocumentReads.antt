@@ -7,7 +7,7 @@ use Rattle.smithy_declarations.specs.declared.place.Place.{Place}
 use Rattle.smithy_declarations.specs.Table.{Table, document, document_place, kind_of}
 use Rattle.smithy_shapes.specs.Site.{Site}
 use Rattle.smithy_declarations.specs.Value.{Value}
-use Rattle.smithy_schema.specs.Reading.{Cursor, depth, StandsNot, ReadsDocument, failed_at}
+use Rattle.smithy_schema.specs.Reading.{Cursor, depth, StandsNot, ReadsDocument, reader, failed_at}
 use Rattle.cbor_item.specs.Item.{Item}
 use Rattle.smithy_cbor_values.specs.Settings.{Settings, kept, without_limits}
 use Rattle.smithy_cbor_values.specs.Meaning.{rules_of}
@@ -41,7 +41,7 @@ module _ (o : Settings) (strict : o.enforce_strictness ≡ true) (d : ℕ) where
 
 module _ (o : Settings) (keeps : o.limits ≡ kept) (max : ℕ) (old new : Cursor) (site : Site) (stays : new ≡ failed_at old) (within : old.at ≤ length old.input) (sound : old.failed ≡ false) (due : old.due ≡ true) where
   abbrev Says : SerdeError → Type 0
-  Says e = ReadsDocument (cbor_relations o) (cbor_relations (without_limits o)) (o.enforce_strictness ≡ true) max old new site (Err e)
+  Says e = ReadsDocument (reader (cbor_relations o) (cbor_relations (without_limits o)) (o.enforce_strictness ≡ true) max) old new site (Err e)
 
   abbrev at : Place
   at = document_place site.place.time

@@ -6,14 +6,14 @@ use Rattle.smithy_declarations.specs.Table.{Table, kind_of, IsMap}
 use Rattle.smithy_schema.specs.declared.error.SerdeError.{SerdeError}
 use Rattle.smithy_schema.specs.declared.error.SerdeError.TheVariants.{InvalidInput}
 use Rattle.smithy_schema.specs.Containers.{GoesOnInMap}
-use Rattle.smithy_schema.specs.Reading.{Cursor, Relations, Conducts, Steps, Leaves, CannotGoOn, failed_at}
+use Rattle.smithy_schema.specs.Reading.{Cursor, Relations, Conducts, Steps, Leaves, CannotGoOn, reader, failed_at}
 use Rattle.smithy_wire.proofs.ScalarReads.{conducts}
 
-module _ {K : Type 0} (w u : Relations) (tells_without_limits : Type 0) (bytes : K → List ℕ) (old : Cursor) (undue : old.due ≡ false) where
+module _ {K : Type 0} {max : ℕ} (w u : Relations) (tells_without_limits : Type 0) (bytes : K → List ℕ) (old : Cursor) (undue : old.due ≡ false) where
   -- a key came, or the map has ended
   pub map_goes_on : (new : Cursor) (next : Option K) → Conducts old new (Ok next)
       → ((t : Table) (p : Place) → IsMap (kind_of t p) → MatchOption next (Leaves w old new t p) (λ key. Steps w old new t p (Some (bytes key))))
-      → GoesOnInMap w u tells_without_limits bytes old new (Ok next)
+      → GoesOnInMap (reader w u tells_without_limits max) bytes old new (Ok next)
   map_goes_on new next conduct ok = record {
     conduct = conduct;
     narrow = (((λ h. cc), λ h. cc), λ h. cc);
@@ -27,7 +27,7 @@ module _ {K : Type 0} (w u : Relations) (tells_without_limits : Type 0) (bytes :
   -- neither comes
   pub map_refuses : (new : Cursor) (error : SerdeError) → error ≡ InvalidInput → new ≡ failed_at old → old.at ≤ length old.input → old.failed ≡ false
       → ((t : Table) (p : Place) → IsMap (kind_of t p) → CannotGoOn w old t p) → ((t : Table) (p : Place) → IsMap (kind_of t p) → CannotGoOn u old t p)
-      → GoesOnInMap w u tells_without_limits bytes old new (Err error)
+      → GoesOnInMap (reader w u tells_without_limits max) bytes old new (Err error)
   map_refuses new error is stays within sound none none_lifted = rw is (record {
     conduct = conducts old new InvalidInput stays within sound (λ h. cc) tt;
     narrow = (((λ h. cc), λ h. cc), λ h. cc);

@@ -62,7 +62,7 @@ impl ShapeDeserializer for CborDeserializer<'_> {
     ghost use Rattle.smithy_declarations.specs.Value.{instant};
     ghost use Rattle.smithy_cbor_codec.specs.Cursor.{cursor_of, reading_settings_of};
     ghost use Rattle.smithy_cbor_values.specs.Settings.{Settings, keep_limits, without_limits};
-    ghost use Rattle.smithy_cbor_values.specs.Standing.{cbor_relations};
+    ghost use Rattle.smithy_cbor_values.specs.Standing.{cbor_relations, cbor_reader};
     ghost use Rattle.smithy_cbor_values.specs.ContainerSize.{cbor_sizes};
     ghost use Rattle.smithy_schema.specs.Sizes.{TellsSize};
     ghost use Rattle.smithy_cbor_values.specs.Laws.{lawful as cbor_is_lawful, fit as cbor_fits, counts as cbor_counts, above as limits_are_above};
@@ -73,15 +73,8 @@ impl ShapeDeserializer for CborDeserializer<'_> {
 
     ghost state = { cursor_of };
 
-    ghost max_depth = { λ (c : Settings). c.max_depth };
-
     // A reader keeps the limits, whatever the settings say of them.
-    ghost wire = { λ c. cbor_relations (keep_limits c) };
-
-    ghost lifted = { λ c. cbor_relations (without_limits c) };
-
-    // Where reading is strict, nothing is missing behind other bytes.
-    ghost tells_without_limits = { λ (c : Settings). c.enforce_strictness ≡ true };
+    ghost reading = { λ c. cbor_reader (keep_limits c) };
 
     ghost lawful = { λ c. cbor_is_lawful (keep_limits c) };
 
@@ -131,7 +124,7 @@ impl ShapeDeserializer for CborDeserializer<'_> {
         requires within { (cursor_of self.old).inner.within ≡ in_structure }
         requires place { HasMembers (kind_at (site_of schema.now)) }
         ensures same { reading_settings_of self.new ≡ reading_settings_of self.old }
-        ensures goes_on { GoesOnInStructure (cbor_relations (reading_settings_of self.old)) (cbor_relations (without_limits (reading_settings_of self.old))) ((reading_settings_of self.old).enforce_strictness ≡ true) (reading_settings_of self.old).max_depth (cursor_of self.old) (cursor_of self.new) (site_of schema.now) result }
+        ensures goes_on { GoesOnInStructure (cbor_reader (reading_settings_of self.old)) (cursor_of self.old) (cursor_of self.new) (site_of schema.now) result }
 
         // An unread member may nest to any depth.
         ensures shallow { IsErrOf result TooDeep → ⊥ }
@@ -213,7 +206,7 @@ impl ShapeDeserializer for CborDeserializer<'_> {
 
     fn read_null(&mut self) -> Result<(), SerdeError>
         ensures same { reading_settings_of self.new ≡ reading_settings_of self.old }
-        ensures reads { ReadsNull (cbor_relations (reading_settings_of self.old)) (cbor_relations (without_limits (reading_settings_of self.old))) ((reading_settings_of self.old).enforce_strictness ≡ true) (cursor_of self.old) (cursor_of self.new) result }
+        ensures reads { ReadsNull (cbor_reader (reading_settings_of self.old)) (cursor_of self.old) (cursor_of self.new) result }
 
         // Where no null is due, the call is refused.
         ensures not_due { null_is_due (cbor_relations (reading_settings_of self.old)) (cursor_of self.old) ≡ false → IsErr result }
@@ -235,7 +228,7 @@ impl ShapeDeserializer for CborDeserializer<'_> {
 
     fn skip_value(&mut self) -> Result<(), SerdeError>
         ensures same { reading_settings_of self.new ≡ reading_settings_of self.old }
-        ensures skips { SkipsValue (cbor_relations (reading_settings_of self.old)) (cbor_relations (without_limits (reading_settings_of self.old))) ((reading_settings_of self.old).enforce_strictness ≡ true) (reading_settings_of self.old).max_depth (cursor_of self.old) (cursor_of self.new) result }
+        ensures skips { SkipsValue (cbor_reader (reading_settings_of self.old)) (cursor_of self.old) (cursor_of self.new) result }
 
         // What is skipped may nest to any depth.
         ensures shallow { IsErrOf result TooDeep → ⊥ }
@@ -347,7 +340,7 @@ impl ShapeDeserializer for CborDeserializer<'_> {
     // It takes no memory.
     fn read_timestamp(&mut self, _schema: &Schema<'_>) -> Result<DateTime, SerdeError>
         ensures same { reading_settings_of self.new ≡ reading_settings_of self.old }
-        ensures read { ReadsScalar (cbor_relations (keep_limits (reading_settings_of self.old))) (cbor_relations (without_limits (reading_settings_of self.old))) ((reading_settings_of self.old).enforce_strictness ≡ true) (cursor_of self.old) (cursor_of self.new) (site_of _schema.now) scalars.Timestamp instant result }
+        ensures read { ReadsScalar (cbor_reader (reading_settings_of self.old)) (cursor_of self.old) (cursor_of self.new) (site_of _schema.now) scalars.Timestamp instant result }
         ensures uncarried { AnswersUncarried (cbor_relations (keep_limits (reading_settings_of self.old))) (cursor_of self.old) (site_of _schema.now) scalars.Timestamp result }
         ensures memory { IsErrOf result NoMemory → ⊥ }
     {
@@ -359,7 +352,7 @@ impl ShapeDeserializer for CborDeserializer<'_> {
     // CBOR carries no documents: wherever an item stands, none is carried.
     fn read_document(&mut self, _schema: &Schema<'_>) -> Result<Document, SerdeError>
         ensures same { reading_settings_of self.new ≡ reading_settings_of self.old }
-        ensures read { ReadsDocument (cbor_relations (keep_limits (reading_settings_of self.old))) (cbor_relations (without_limits (reading_settings_of self.old))) ((reading_settings_of self.old).enforce_strictness ≡ true) (reading_settings_of self.old).max_depth (cursor_of self.old) (cursor_of self.new) (site_of _schema.now) result }
+        ensures read { ReadsDocument (cbor_reader (reading_settings_of self.old)) (cursor_of self.old) (cursor_of self.new) (site_of _schema.now) result }
         ensures never { IsOk result → ⊥ }
         ensures shallow { IsErrOf result TooDeep → ⊥ }
         ensures lies { IsErrOf result NotCarried → (e : ℕ) × (cbor_relations (reading_settings_of self.old)).skips (cursor_of self.old).input (depth (cursor_of self.old)) (cursor_of self.old).at e }

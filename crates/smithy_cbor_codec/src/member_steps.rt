@@ -12,8 +12,7 @@ impl CborDeserializer<'_> {
     ghost use Rattle.smithy_shapes.specs.Site.{site_of, kind_at};
     ghost use Rattle.smithy_schema.specs.declared.error.SerdeError.TheVariants.{TooDeep};
     ghost use Rattle.smithy_cbor_codec.specs.Cursor.{cursor_of, reading_settings_of};
-    ghost use Rattle.smithy_cbor_values.specs.Settings.{without_limits};
-    ghost use Rattle.smithy_cbor_values.specs.Standing.{cbor_relations};
+    ghost use Rattle.smithy_cbor_values.specs.Standing.{cbor_reader};
     ghost use Rattle.smithy_wire.specs.Stepping.{StepsFrom};
     ghost use Rattle.smithy_cbor_codec.specs.Private.MemberSteps.{EndsEmpty};
 
@@ -46,7 +45,7 @@ impl CborDeserializer<'_> {
         requires inside { (cursor_of self.old).inner.within ≡ in_structure }
         requires place { HasMembers (kind_at (site_of schema.now)) }
         ensures same { reading_settings_of self.new ≡ reading_settings_of self.old }
-        ensures steps { StepsFrom (cbor_relations (reading_settings_of self.old)) (cbor_relations (without_limits (reading_settings_of self.old))) (reading_settings_of self.old).max_depth (cursor_of self.old) at (cursor_of self.new) (site_of schema.now) result }
+        ensures steps { StepsFrom (cbor_reader (reading_settings_of self.old)) (cursor_of self.old) at (cursor_of self.new) (site_of schema.now) result }
         ensures shallow { IsErrOf result TooDeep → ⊥ }
     {
         if self.ends_empty(at, schema) {

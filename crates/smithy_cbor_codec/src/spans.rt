@@ -1,5 +1,5 @@
 //! Reading texts and bytes by the places of the input at which they stand.
-ghost use Rattle.std.specs.Prelude.{◌≡◌, ◌≤◌, ◌↔◌, ℕ, List, length, drop, true, IfOk, IfErr, IfSome, MatchOption};
+ghost use Rattle.std.specs.Prelude.{◌≡◌, ◌≤◌, ◌↔◌, ℕ, List, length, drop, IfOk, IfErr, IfSome, MatchOption};
 ghost use Rattle.std.specs.Cow.{cow_str_bytes, IsBorrowedStr};
 ghost use Rattle.cbor_item.specs.Strings.{BeginsIndefinite};
 ghost use Rattle.smithy_schema.specs.Spans.{text_bytes, span_bytes, IsTextPlaced, IsPlaced, IsTextBetween, IsBetween, NamesTextPlace, NamesBytesPlace};
@@ -78,14 +78,14 @@ fn bytes_span_at(
 }
 
 impl PieceDeserializer for CborDeserializer<'_> {
-    ghost use Rattle.std.specs.Prelude.{IsErrOf};
     ghost use Rattle.smithy_declarations.specs.declared.shape_type.Scalar.TheVariants as scalars;
     ghost use Rattle.smithy_declarations.specs.Value.{text, bytes};
     ghost use Rattle.smithy_shapes.specs.Site.{site_of};
+    ghost use Rattle.smithy_schema.specs.Borrowing.{Borrows};
     ghost use Rattle.smithy_schema.specs.Reading.{ReadsScalar};
+    ghost use Rattle.smithy_cbor_values.specs.Borrowed.{texts_borrow, bytes_borrow};
     ghost use Rattle.smithy_cbor_codec.specs.Cursor.{cursor_of, reading_settings_of};
-    ghost use Rattle.smithy_cbor_values.specs.Settings.{keep_limits, without_limits};
-    ghost use Rattle.smithy_cbor_values.specs.Standing.{cbor_relations};
+    ghost use Rattle.smithy_cbor_values.specs.Standing.{cbor_reader};
 
     type Text = TextSpan;
 
@@ -93,15 +93,12 @@ impl PieceDeserializer for CborDeserializer<'_> {
 
     fn take_text(&mut self, _schema: &Schema<'_>) -> Result<TextSpan, SerdeError>
         ensures same { reading_settings_of self.new ≡ reading_settings_of self.old }
-        ensures read { ReadsScalar (cbor_relations (keep_limits (reading_settings_of self.old))) (cbor_relations (without_limits (reading_settings_of self.old))) ((reading_settings_of self.old).enforce_strictness ≡ true) (cursor_of self.old) (cursor_of self.new) (site_of _schema.now) scalars.String (λ t. text (text_bytes (cursor_of self.old).input t)) result }
-        ensures stands { IfOk result (IsTextPlaced (cursor_of self.old).input) }
-        ensures lies { IfOk result (IsTextBetween (cursor_of self.old).at (cursor_of self.new).at) }
+        ensures read { ReadsScalar (cbor_reader (reading_settings_of self.old)) (cursor_of self.old) (cursor_of self.new) (site_of _schema.now) scalars.String (λ t. text (text_bytes (cursor_of self.old).input t)) result }
+        ensures placed { IfOk result (IsTextPlaced (cursor_of self.old).input) }
+        ensures between { IfOk result (IsTextBetween (cursor_of self.old).at (cursor_of self.new).at) }
 
-        // A place is named exactly where the text is definite.
-        ensures borrowed { IfOk result (λ t. BorrowsText (cursor_of self.old).input (cursor_of self.old).at (NamesTextPlace t) (cursor_of self.new).at) }
-
-        // Only an indefinite text takes memory.
-        ensures memory { IsErrOf result SerdeError.NoMemory → BeginsIndefinite 3 (drop (cursor_of self.old).at (cursor_of self.old).input) }
+        // A place is named exactly where the text is definite, and only an indefinite one takes memory.
+        ensures borrows { Borrows texts_borrow NamesTextPlace (cursor_of self.old) (cursor_of self.new) result }
     {
         self.walk.ready()?;
         let found = text_span_at(
@@ -115,15 +112,12 @@ impl PieceDeserializer for CborDeserializer<'_> {
 
     fn take_bytes(&mut self, _schema: &Schema<'_>) -> Result<BytesSpan, SerdeError>
         ensures same { reading_settings_of self.new ≡ reading_settings_of self.old }
-        ensures read { ReadsScalar (cbor_relations (keep_limits (reading_settings_of self.old))) (cbor_relations (without_limits (reading_settings_of self.old))) ((reading_settings_of self.old).enforce_strictness ≡ true) (cursor_of self.old) (cursor_of self.new) (site_of _schema.now) scalars.Blob (λ b. bytes (span_bytes (cursor_of self.old).input b)) result }
-        ensures stands { IfOk result (IsPlaced (cursor_of self.old).input) }
-        ensures lies { IfOk result (IsBetween (cursor_of self.old).at (cursor_of self.new).at) }
+        ensures read { ReadsScalar (cbor_reader (reading_settings_of self.old)) (cursor_of self.old) (cursor_of self.new) (site_of _schema.now) scalars.Blob (λ b. bytes (span_bytes (cursor_of self.old).input b)) result }
+        ensures placed { IfOk result (IsPlaced (cursor_of self.old).input) }
+        ensures between { IfOk result (IsBetween (cursor_of self.old).at (cursor_of self.new).at) }
 
-        // A place is named exactly where the byte string is definite.
-        ensures borrowed { IfOk result (λ b. BorrowsBytes (cursor_of self.old).input (cursor_of self.old).at (NamesBytesPlace b) (cursor_of self.new).at) }
-
-        // Only an indefinite byte string takes memory.
-        ensures memory { IsErrOf result SerdeError.NoMemory → BeginsIndefinite 2 (drop (cursor_of self.old).at (cursor_of self.old).input) }
+        // A place is named exactly where the byte string is definite, and only an indefinite one takes memory.
+        ensures borrows { Borrows bytes_borrow NamesBytesPlace (cursor_of self.old) (cursor_of self.new) result }
     {
         self.walk.ready()?;
         let found = bytes_span_at(

@@ -20,7 +20,7 @@ use Rattle.smithy_cbor.specs.Scalar.{boolean_item, integer_of, text_of, bytes_of
 use Rattle.smithy_cbor_values.specs.Scalar.{boolean_of, whole_of, blob_of, says}
 use Rattle.smithy_cbor_values.specs.Laws.{lawful}
 use Rattle.smithy_cbor_values.specs.Meaning.{node_of, rules_of}
-use Rattle.smithy_cbor_values.specs.Standing.{Follows, end_depth, frames_of, cbor_relations}
+use Rattle.smithy_cbor_values.specs.Standing.{Follows, end_depth, frames_of, cbor_relations, cbor_reader}
 use Rattle.smithy_cbor_values.specs.Private.Fits.{boolean_is, whole_is, blob_is}
 use Rattle.smithy_cbor_values.specs.Private.ScalarAtPlace.{IsAt, IsWholeAt, HasTextAt, IsBlobAt, MeansAt, ExceedsAt, UncarriedAt, NothingAt}
 use Rattle.smithy_cbor_values.specs.Private.Wire.{wire_of}
@@ -321,9 +321,9 @@ module _ (o : Settings) (old : Cursor) (site : Site) (sound : old.failed ≡ fal
       → IfSome found (λ r. IsAt (boolean_item r.0) old.input old.at (end_depth o.enforce_strictness (depth old)) r.1) → IfNone found ((b : Bool) (e : ℕ) → IsAt (boolean_item b) old.input old.at (end_depth o.enforce_strictness (depth old)) e → ⊥)
       → IfOk result (λ x. IfSome found (λ r. (r.0 ≡ x) × (new ≡ passed_to old r.1))) → (IsOk result → IsSome found) → (IsErr result → IsNone found)
       → OnErr result (new ≡ failed_at old) → IfErr result (λ e. e ≡ InvalidInput)
-      → ReadsScalar (cbor_relations o) (cbor_relations (without_limits o)) (o.enforce_strictness ≡ true) old new site scalars.Boolean boolean result
+      → ReadsScalar (cbor_reader o) old new site scalars.Boolean boolean result
   reads_boolean new found result here none =
-      takes (cbor_relations o) (cbor_relations (without_limits o)) (o.enforce_strictness ≡ true) site scalars.Boolean boolean (lawful o) old sound due within false refl new found result
+      takes (cbor_reader o) site scalars.Boolean boolean (lawful o) old sound due within false refl new found result
       (if_some found _ _ (λ r. boolean_stands o old site r.0 r.1) here)
       (if_none found _ _ (λ nothing. (no_boolean_stands o old site nothing, no_boolean_stands (without_limits o) old site nothing)) none)
 
@@ -333,9 +333,9 @@ module _ (o : Settings) (old : Cursor) (site : Site) (sound : old.failed ≡ fal
       → IfSome found (λ r. IsWholeAt bits r.0 old.input old.at (end_depth o.enforce_strictness (depth old)) r.1) → IfNone found ((n : ℤ) (e : ℕ) → IsWholeAt bits n old.input old.at (end_depth o.enforce_strictness (depth old)) e → ⊥)
       → IfOk result (λ x. IfSome found (λ r. (r.0 ≡ x) × (new ≡ passed_to old r.1))) → (IsOk result → IsSome found) → (IsErr result → IsNone found)
       → OnErr result (new ≡ failed_at old) → IfErr result (λ e. e ≡ InvalidInput)
-      → ReadsScalar (cbor_relations o) (cbor_relations (without_limits o)) (o.enforce_strictness ≡ true) old new site s whole result
+      → ReadsScalar (cbor_reader o) old new site s whole result
   reads_whole s bits says_whole new found result here none =
-      takes (cbor_relations o) (cbor_relations (without_limits o)) (o.enforce_strictness ≡ true) site s whole (lawful o) old sound due within false refl new found result
+      takes (cbor_reader o) site s whole (lawful o) old sound due within false refl new found result
       (if_some found _ _ (λ r. whole_stands o old site s bits says_whole r.0 r.1) here)
       (if_none found _ _ (λ nothing. (no_whole_stands o old site s bits says_whole nothing, no_whole_stands (without_limits o) old site s bits says_whole nothing)) none)
 
@@ -346,7 +346,7 @@ module _ (o : Settings) (old : Cursor) (site : Site) (sound : old.failed ≡ fal
       → IfSome found (IsNarrowed bits broad) → IfNone found (IsWider bits broad)
       → IfOk result (λ x. IfSome found (λ r. (r.0 ≡ x) × (new ≡ passed_to old r.1))) → (IsOk result → IsSome found) → (IsErr result → IsNone found)
       → OnErr result (new ≡ failed_at old) → IfErr result (λ e. e ≡ InvalidInput)
-      → ReadsScalar (cbor_relations o) (cbor_relations (without_limits o)) (o.enforce_strictness ≡ true) old new site s whole result
+      → ReadsScalar (cbor_reader o) old new site s whole result
   reads_narrow s bits fewer says_whole new broad found result here none narrow wider =
       let At : ℕ → ℤ → ℕ → Type 0 = λ bits n e. IsWholeAt bits n old.input old.at (end_depth o.enforce_strictness (depth old)) e in
       reads_whole s bits says_whole new found result
@@ -357,39 +357,39 @@ module _ (o : Settings) (old : Cursor) (site : Site) (sound : old.failed ≡ fal
   -- of a text
   pub reads_text : {A : Type 0} (text_of : A → List ℕ) (new : Cursor) (found : Result (Option (A × ℕ)) AllocError) (result : Result A SerdeError)
       → IfOk found (λ it. MatchOption it ((t : List ℕ) (e : ℕ) → HasTextAt t old.input old.at e → Follows (end_depth o.enforce_strictness (depth old)) old.input e → ⊥) (λ r. TextStands old.input old.at (end_depth o.enforce_strictness (depth old)) (text_of r.0) r.1))
-      → Takes old new found result → ReadsScalar (cbor_relations o) (cbor_relations (without_limits o)) (o.enforce_strictness ≡ true) old new site scalars.String (λ x. text (text_of x)) result
+      → Takes old new found result → ReadsScalar (cbor_reader o) old new site scalars.String (λ x. text (text_of x)) result
   reads_text text_of new found result here =
-      takes_found (cbor_relations o) (cbor_relations (without_limits o)) (o.enforce_strictness ≡ true) site scalars.String (λ x. text (text_of x)) (lawful o) old sound due within false refl new found result
+      takes_found (cbor_reader o) site scalars.String (λ x. text (text_of x)) (lawful o) old sound due within false refl new found result
       (if_ok found _ _ (λ f. if_matched f _ _ _ _ (λ nothing. (no_text_stands o old site nothing, no_text_stands (without_limits o) old site nothing)) (λ r. text_stands o old site (text_of r.0) r.1)) here)
 
   -- of bytes, wherever they are kept
   pub reads_bytes : {A : Type 0} (bytes_in : A → List ℕ) (new : Cursor) (found : Result (Option (A × ℕ)) AllocError) (result : Result A SerdeError)
       → IfOk found (λ it. MatchOption it ((b : List ℕ) (e : ℕ) → IsBlobAt b old.input old.at (end_depth o.enforce_strictness (depth old)) e → ⊥) (λ r. IsBlobAt (bytes_in r.0) old.input old.at (end_depth o.enforce_strictness (depth old)) r.1))
-      → Takes old new found result → ReadsScalar (cbor_relations o) (cbor_relations (without_limits o)) (o.enforce_strictness ≡ true) old new site scalars.Blob (λ x. bytes (bytes_in x)) result
+      → Takes old new found result → ReadsScalar (cbor_reader o) old new site scalars.Blob (λ x. bytes (bytes_in x)) result
   reads_bytes bytes_in new found result here =
-      takes_found (cbor_relations o) (cbor_relations (without_limits o)) (o.enforce_strictness ≡ true) site scalars.Blob (λ x. bytes (bytes_in x)) (lawful o) old sound due within false refl new found result
+      takes_found (cbor_reader o) site scalars.Blob (λ x. bytes (bytes_in x)) (lawful o) old sound due within false refl new found result
       (if_ok found _ _ (λ f. if_matched f _ _ _ _ (λ nothing. (no_blob_stands o old site nothing, no_blob_stands (without_limits o) old site nothing)) (λ r. blob_stands o old site (bytes_in r.0) r.1)) here)
 
   -- of bytes
   pub reads_blob : (new : Cursor) (found : Result (Option (List ℕ × ℕ)) AllocError) (result : Result (List ℕ) SerdeError)
       → IfOk found (λ it. MatchOption it ((b : List ℕ) (e : ℕ) → IsBlobAt b old.input old.at (end_depth o.enforce_strictness (depth old)) e → ⊥) (λ r. IsBlobAt r.0 old.input old.at (end_depth o.enforce_strictness (depth old)) r.1))
-      → Takes old new found result → ReadsScalar (cbor_relations o) (cbor_relations (without_limits o)) (o.enforce_strictness ≡ true) old new site scalars.Blob bytes result
+      → Takes old new found result → ReadsScalar (cbor_reader o) old new site scalars.Blob bytes result
   reads_blob new found result here = reads_bytes (λ b. b) new found result here
 
   -- of a big number
   module _ (keeps : o.limits ≡ kept) (s : Scalar) (timeless : (x : Item) → says s site.place.time x ≡ says s None x) {A : Type 0} (value : A → ScalarValue)
       (new : Cursor) (found : Result (Found (A × ℕ)) AllocError) (result : Result A SerdeError)
       (here : IfOk found (λ f. MatchFound f (λ r. MeansAt s old.input old.at (end_depth o.enforce_strictness (depth old)) (value r.0) r.1) (NothingAt s old.input old.at (end_depth o.enforce_strictness (depth old))) (ExceedsAt s old.input old.at (end_depth o.enforce_strictness (depth old))))) where
-    pub reads_big : TakesWithin old new TooWide found result → ReadsScalar (cbor_relations o) (cbor_relations (without_limits o)) (o.enforce_strictness ≡ true) old new site s value result
+    pub reads_big : TakesWithin old new TooWide found result → ReadsScalar (cbor_reader o) old new site s value result
     reads_big =
-        takes_within_limits (cbor_relations o) (cbor_relations (without_limits o)) (o.enforce_strictness ≡ true) site s value (lawful o) old sound due within false refl new found result
+        takes_within_limits (cbor_reader o) site s value (lawful o) old sound due within false refl new found result
         (if_ok found _ _ (λ f. if_found f _ _ _ _ _ _ (λ r. number_stands o old site s timeless (value r.0) r.1)
         (λ none. (no_number_stands o old site s timeless none, no_number_stands (without_limits o) old site s timeless none))
         (λ leaves. let there = number_exceeds o old site s timeless leaves in (there, exceeds_stands_not o old site s timeless keeps there))) here)
 
     pub answers_big : TakesWithin old new TooWide found result → AnswersWide (cbor_relations o) old site s result
     answers_big =
-        answers_past_limits (cbor_relations o) (cbor_relations (without_limits o)) (o.enforce_strictness ≡ true) site s value (lawful o) old sound due within false refl new found result
+        answers_past_limits (cbor_reader o) site s value (lawful o) old sound due within false refl new found result
         (exceeds_stands_not o old site s timeless keeps)
         (if_ok found _ _ (λ f. if_found f _ _ _ _ _ _ (λ r. number_stands o old site s timeless (value r.0) r.1) (λ none. no_number_exceeds o old site s timeless none) (λ leaves. tt)) here)
 
@@ -398,16 +398,16 @@ module _ (o : Settings) (old : Cursor) (site : Site) (sound : old.failed ≡ fal
       (here : MatchFound found (λ r. MeansAt scalars.Timestamp old.input old.at (end_depth o.enforce_strictness (depth old)) (instant r.0) r.1)
       (NothingAt scalars.Timestamp old.input old.at (end_depth o.enforce_strictness (depth old))) (UncarriedAt scalars.Timestamp old.input old.at (end_depth o.enforce_strictness (depth old)))) where
     pub reads_instant : TakesWithin old new NotCarried (Ok found) result
-        → ReadsScalar (cbor_relations o) (cbor_relations (without_limits o)) (o.enforce_strictness ≡ true) old new site scalars.Timestamp instant result
+        → ReadsScalar (cbor_reader o) old new site scalars.Timestamp instant result
     reads_instant =
-        takes_what_is_carried (cbor_relations o) (cbor_relations (without_limits o)) (o.enforce_strictness ≡ true) site scalars.Timestamp instant (lawful o) old sound due within false refl new (Ok found) result
+        takes_what_is_carried (cbor_reader o) site scalars.Timestamp instant (lawful o) old sound due within false refl new (Ok found) result
         (if_found found _ _ _ _ _ _ (λ r. number_stands o old site scalars.Timestamp (λ x. refl) (instant r.0) r.1)
         (λ none. (no_number_stands o old site scalars.Timestamp (λ x. refl) none, no_number_stands (without_limits o) old site scalars.Timestamp (λ x. refl) none))
         (λ floats. let there = not_carried o old site scalars.Timestamp (λ x. refl) floats in (there, uncarried_stands_not o old site scalars.Timestamp (λ x. refl) keeps there)) here)
 
     pub answers_instant : TakesWithin old new NotCarried (Ok found) result → AnswersUncarried (cbor_relations o) old site scalars.Timestamp result
     answers_instant =
-        answers_what_is_not (cbor_relations o) (cbor_relations (without_limits o)) (o.enforce_strictness ≡ true) site scalars.Timestamp instant (lawful o) old sound due within false refl new (Ok found) result
+        answers_what_is_not (cbor_reader o) site scalars.Timestamp instant (lawful o) old sound due within false refl new (Ok found) result
         (uncarried_stands_not o old site scalars.Timestamp (λ x. refl) keeps)
         (if_found found _ _ _ _ _ _ (λ r. number_stands o old site scalars.Timestamp (λ x. refl) (instant r.0) r.1) (λ none. all_carried o old site scalars.Timestamp (λ x. refl) none) (λ floats. tt) here)
 

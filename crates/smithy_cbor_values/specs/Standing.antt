@@ -1,9 +1,9 @@
 -- Where CBOR lies in an input: the framing of CBOR, and the relations of reading that follow.
 use Rattle.std.specs.Prelude.{◌≡◌, ◌⊎◌, ◌<◌, ◌+◌, ◌-◌, ◌==◌, ℕ, zero, suc, length, drop, List, [], ◌∷◌, Option, Some, None, Bool, true, false, unwrap_or, if◌then◌else◌}
-use Rattle.smithy_schema.specs.Reading.{Relations, Mark}
+use Rattle.smithy_schema.specs.Reading.{Relations, Reader, reader, Mark}
 use Rattle.cbor_item.specs.Item.{Item}
 use Rattle.cbor_item.specs.WellFormed.{IsItemAt, break}
-use Rattle.smithy_cbor_values.specs.Settings.{Settings}
+use Rattle.smithy_cbor_values.specs.Settings.{Settings, without_limits}
 use Rattle.smithy_cbor_values.specs.Meaning.{node_of, rules_of}
 use Rattle.smithy_cbor.specs.Reading.{OpensAt}
 use Rattle.smithy_cbor_values.specs.Openers.{cbor_openers}
@@ -97,3 +97,7 @@ frames_of c = cbor_frames c.enforce_strictness
 
 abbrev pub cbor_relations : Settings → Relations
 cbor_relations c = relations (frames_of c) (rules_of c)
+
+-- what the calls of a reader of CBOR are told by: where reading is strict, nothing is missing behind other bytes
+abbrev pub cbor_reader : Settings → Reader
+cbor_reader c = reader (cbor_relations c) (cbor_relations (without_limits c)) (c.enforce_strictness ≡ true) c.max_depth

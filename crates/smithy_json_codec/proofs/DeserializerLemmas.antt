@@ -26,7 +26,7 @@ use Rattle.smithy_json_values.specs.Settings.{Settings, without_limits, is_shall
 use Rattle.smithy_json_values.specs.LexicalGrammar.{frames_of}
 use Rattle.smithy_json_values.specs.Standing.{json_grammar, json_relations, end_mark}
 use Rattle.smithy_json_values.specs.Tokens.{IsOverBy}
-use Rattle.smithy_json_values.specs.Private.NextInContainer.{ElementBegins, ClosesIn, NamesIn, GoesOnInList, GoesOnInObject}
+use Rattle.smithy_json_values.specs.Private.NextInContainer.{ElementBegins, ClosesIn, NamesIn, GoesOnInArray, GoesOnInObject}
 use Rattle.smithy_json_values.specs.Private.Skipping.{SkipsTo, skip_refusal}
 use Rattle.smithy_json_codec.specs.Private.PassedEntries.{entry_refusal}
 use Rattle.smithy_json_codec.proofs.ReaderLemmas.{steps_in_list, list_is_stuck, steps_in_map, map_is_stuck, same_names, names_or_end}
@@ -76,7 +76,7 @@ element_steps o old new t p b kind within sound is begins = rw is (record {
 
 -- the list goes on neither to an element nor to its end
 pub list_stuck : (o : Settings) (c : Cursor) (t : Table) (p : Place) → IsList (kind_of t p) → (held : ℕ) → held ≡ depth c
-    → GoesOnInList (json_grammar o) c.input c.at c.inner.mark.entered held None → CannotGoOn (json_relations o) c t p
+    → GoesOnInArray (json_grammar o) c.input c.at c.inner.mark.entered held None → CannotGoOn (json_relations o) c t p
 list_stuck o c t p kind held same h =
     let shut = subst (λ d. (e : ℕ) → ClosesIn (json_grammar o) end_array c.input c.at d e → ⊥) same h.1 in
     list_is_stuck o c.input t p kind (depth c) c.at c.inner.mark (λ b separated goes. h.0 b (separated, goes)) (λ e lies follows. shut e (lies, follows))

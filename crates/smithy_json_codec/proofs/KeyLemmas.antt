@@ -9,14 +9,14 @@ use Rattle.smithy_schema.specs.Containers.{GoesOnInMap}
 use Rattle.smithy_schema.specs.Reading.{Cursor, Leaves, Steps, CannotGoOn, failed_at}
 use Rattle.smithy_json_grammar.specs.Unescape.{unescaped}
 use Rattle.smithy_json_values.specs.Settings.{Settings, without_limits}
-use Rattle.smithy_json_values.specs.Standing.{json_relations}
+use Rattle.smithy_json_values.specs.Standing.{json_relations, json_reader}
 use Rattle.smithy_json_values.specs.Private.PlacedTexts.{IsMeantFrom}
 use Rattle.smithy_json_codec.proofs.DeserializerLemmas.{goes_ahead}
 use Rattle.smithy_wire.proofs.ScalarReads.{conducts, fails_again}
 
 module _ {K : Type 0} (o : Settings) (bytes : K → List ℕ) (old new : Cursor) where
   abbrev GoesOn : Result (Option K) SerdeError → Type 0
-  GoesOn result = GoesOnInMap (json_relations o) (json_relations (without_limits o)) (o.enforce_strictness ≡ true) bytes old new result
+  GoesOn result = GoesOnInMap (json_reader o) bytes old new result
 
   module _ (inside : old.at ≤ length old.input) (stays : new ≡ failed_at old) where
     pub failed_before : old.failed ≡ true → GoesOn (Err Failed)

@@ -11,7 +11,7 @@ use Rattle.smithy_schema.specs.declared.error.SerdeError.TheVariants.{InvalidInp
 use Rattle.smithy_declarations.specs.Table.{scalar_place}
 use Rattle.smithy_shapes.specs.Site.{Site}
 use Rattle.smithy_declarations.specs.Value.{ScalarValue, whole, instant, Value, scalar_value, null_element}
-use Rattle.smithy_schema.specs.Reading.{Cursor, depth, Relations, StandsNot, Exceeds, Uncarried, ReadsScalar, AnswersWide, AnswersUncarried, passed_to, failed_at}
+use Rattle.smithy_schema.specs.Reading.{Cursor, depth, Relations, Reader, reader, StandsNot, Exceeds, Uncarried, ReadsScalar, AnswersWide, AnswersUncarried, passed_to, failed_at}
 use Rattle.smithy_shapes.specs.Lemmas.Options.{same_some}
 use Rattle.smithy_shapes.proofs.ScalarLemmas.{fits_more}
 use Rattle.smithy_json_values.specs.Settings.{Settings, kept, without_limits}
@@ -128,8 +128,8 @@ module _ (g : LexicalGrammar) (o : Settings) (old : Cursor) (site : Site) (sound
   abbrev w : Relations
   w = token_relations g o
 
-  abbrev lifted : Relations
-  lifted = token_relations g (without_limits o)
+  abbrev told_by : Reader
+  told_by = reader w (token_relations g (without_limits o)) (o.enforce_strictness ≡ true) o.max_depth
 
   -- what comes is of another type
   abbrev pub is_other : Scalar → Bool
@@ -141,9 +141,9 @@ module _ (g : LexicalGrammar) (o : Settings) (old : Cursor) (site : Site) (sound
       → IfSome found (λ r. IntegerLies g o bits old.input old.at r.0 r.1) → IfNone found ((n : ℤ) (e : ℕ) → IntegerLies g o bits old.input old.at n e → ⊥)
       → IfOk result (λ x. IfSome found (λ r. (r.0 ≡ x) × (new ≡ passed_to old r.1))) → (IsOk result → IsSome found) → (IsErr result → IsNone found)
       → OnErr result (new ≡ failed_at old) → IfErr result (λ e. e ≡ InvalidInput)
-      → ReadsScalar w lifted (o.enforce_strictness ≡ true) old new site s whole (told (is_other s) result)
+      → ReadsScalar told_by old new site s whole (told (is_other s) result)
   reads_integer s bits kind new found result here none =
-      takes w lifted (o.enforce_strictness ≡ true) site s whole (lawful g o) old sound due within (is_other s) refl new found result
+      takes told_by site s whole (lawful g o) old sound due within (is_other s) refl new found result
       (if_some found _ _ (λ r. integer_stands g o old site s bits kind r.0 r.1) here)
       (if_none found _ _ (λ nothing. (
         no_integer_stands g o old site s bits kind nothing,
@@ -158,7 +158,7 @@ module _ (g : LexicalGrammar) (o : Settings) (old : Cursor) (site : Site) (sound
       → IfSome found (IsNarrowed bits broad) → IfNone found (IsWider bits broad)
       → IfOk result (λ x. IfSome found (λ r. (r.0 ≡ x) × (new ≡ passed_to old r.1))) → (IsOk result → IsSome found) → (IsErr result → IsNone found)
       → OnErr result (new ≡ failed_at old) → IfErr result (λ e. e ≡ InvalidInput)
-      → ReadsScalar w lifted (o.enforce_strictness ≡ true) old new site s whole (told (is_other s) result)
+      → ReadsScalar told_by old new site s whole (told (is_other s) result)
   reads_narrow s bits fewer kind new broad found result here none narrow wider =
       let At : ℕ → ℤ → ℕ → Type 0 = λ bits n e. IntegerLies g o bits old.input old.at n e in
       reads_integer s bits kind new found result
@@ -171,9 +171,9 @@ module _ (g : LexicalGrammar) (o : Settings) (old : Cursor) (site : Site) (sound
       (new : Cursor) (found : Result (Found (A × ℕ)) AllocError) (result : Result A SerdeError)
       (here : IfOk found (λ f. MatchFound f (λ r. MeansAt g s old.input old.at (value r.0) r.1) (NothingAt g s old.input old.at) (ExceedsAt g s old.input old.at)))
       (taken : TakesWithin old new TooWide found result) where
-    pub reads_big : ReadsScalar w lifted (o.enforce_strictness ≡ true) old new site s value (told (is_other s) result)
+    pub reads_big : ReadsScalar told_by old new site s value (told (is_other s) result)
     reads_big =
-        takes_within_limits w lifted (o.enforce_strictness ≡ true) site s value (lawful g o) old sound due within (is_other s) refl new found result
+        takes_within_limits told_by site s value (lawful g o) old sound due within (is_other s) refl new found result
         (if_ok found _ _ (λ f. if_found f _ _ _ _ _ _ (λ r. number_stands g o old site s is_text (value r.0) r.1)
         (λ none. (no_number_stands g o old site s is_text none, no_number_stands g (without_limits o) old site s is_text none))
         (λ wide. let there = number_exceeds g o old site s is_text wide in (there, exceeds_stands_not g o old site s is_text keeps there))) here)
@@ -181,7 +181,7 @@ module _ (g : LexicalGrammar) (o : Settings) (old : Cursor) (site : Site) (sound
 
     pub answers_big : AnswersWide w old site s (told (is_other s) result)
     answers_big =
-        answers_past_limits w lifted (o.enforce_strictness ≡ true) site s value (lawful g o) old sound due within (is_other s) refl new found result
+        answers_past_limits told_by site s value (lawful g o) old sound due within (is_other s) refl new found result
         (exceeds_stands_not g o old site s is_text keeps)
         (if_ok found _ _ (λ f. if_found f _ _ _ _ _ _ (λ r. number_stands g o old site s is_text (value r.0) r.1) (no_number_exceeds g o old site s is_text) (λ wide. tt)) here)
         taken
@@ -190,9 +190,9 @@ module _ (g : LexicalGrammar) (o : Settings) (old : Cursor) (site : Site) (sound
   module _ (keeps : o.limits ≡ kept) (new : Cursor) (found : Result (Found (ℤ × ℕ)) AllocError) (result : Result ℤ SerdeError)
       (here : IfOk found (λ f. MatchFound f (λ r. InstantLies g o site.place.time old.input old.at r.0 r.1) (NoInstantLies g o site.place.time old.input old.at) (UncarriedLies g o site.place.time old.input old.at)))
       (taken : TakesWithin old new NotCarried found result) where
-    pub reads_instant : ReadsScalar w lifted (o.enforce_strictness ≡ true) old new site scalars.Timestamp instant (told (is_other scalars.Timestamp) result)
+    pub reads_instant : ReadsScalar told_by old new site scalars.Timestamp instant (told (is_other scalars.Timestamp) result)
     reads_instant =
-        takes_what_is_carried w lifted (o.enforce_strictness ≡ true) site scalars.Timestamp instant (lawful g o) old sound due within (is_other scalars.Timestamp) refl new found result
+        takes_what_is_carried told_by site scalars.Timestamp instant (lawful g o) old sound due within (is_other scalars.Timestamp) refl new found result
         (if_ok found _ _ (λ f. if_found f _ _ _ _ _ _ (λ r. instant_stands g o old site r.0 r.1)
         (λ none. (no_instant_stands g o old site none, no_instant_stands g (without_limits o) old site none))
         (λ other. let there = instant_uncarried g o old site other in (there, uncarried_stands_not g o old site keeps there))) here)
@@ -200,7 +200,7 @@ module _ (g : LexicalGrammar) (o : Settings) (old : Cursor) (site : Site) (sound
 
     pub answers_instant : AnswersUncarried w old site scalars.Timestamp (told (is_other scalars.Timestamp) result)
     answers_instant =
-        answers_what_is_not w lifted (o.enforce_strictness ≡ true) site scalars.Timestamp instant (lawful g o) old sound due within (is_other scalars.Timestamp) refl new found result
+        answers_what_is_not told_by site scalars.Timestamp instant (lawful g o) old sound due within (is_other scalars.Timestamp) refl new found result
         (uncarried_stands_not g o old site keeps)
         (if_ok found _ _ (λ f. if_found f _ _ _ _ _ _ (λ r. instant_stands g o old site r.0 r.1) (all_carried g o old site) (λ other. tt)) here)
         taken

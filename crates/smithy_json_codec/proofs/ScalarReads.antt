@@ -16,7 +16,7 @@ use Rattle.smithy_json_values.specs.Scalar.{JsonScalar, a_boolean, a_number, a_s
 use Rattle.smithy_json_values.specs.Laws.{lawful}
 use Rattle.smithy_json_values.specs.TypeMismatch.{scalar_mismatches}
 use Rattle.smithy_json_values.specs.Spans.{without_ws}
-use Rattle.smithy_json_values.specs.Standing.{json_grammar, json_relations}
+use Rattle.smithy_json_values.specs.Standing.{json_grammar, json_relations, json_reader}
 use Rattle.smithy_json_values.specs.Private.ScalarAtPlace.{TextLies, BlobLies}
 use Rattle.smithy_json_values.specs.LexicalGrammar.{frames_of, LiesInGrammar}
 use Rattle.smithy_json_values.proofs.GrammarReads as in_grammar_reads
@@ -104,9 +104,9 @@ module _ (o : Settings) (old : Cursor) (site : Site) (sound : old.failed ≡ fal
       → IfSome found (λ r. (frames_of (json_grammar o)).scalar old.input 0 (a_boolean r.0) old.at r.1) → IfNone found ((b : Bool) (e : ℕ) → (frames_of (json_grammar o)).scalar old.input 0 (a_boolean b) old.at e → ⊥)
       → IfOk result (λ x. IfSome found (λ r. (r.0 ≡ x) × (new ≡ passed_to old r.1))) → (IsOk result → IsSome found) → (IsErr result → IsNone found)
       → OnErr result (new ≡ failed_at old) → IfErr result (λ e. e ≡ InvalidInput)
-      → ReadsScalar (json_relations o) (json_relations (without_limits o)) (o.enforce_strictness ≡ true) old new site scalars.Boolean boolean (told (is_other scalars.Boolean) result)
+      → ReadsScalar (json_reader o) old new site scalars.Boolean boolean (told (is_other scalars.Boolean) result)
   reads_boolean new found result here none =
-      takes (json_relations o) (json_relations (without_limits o)) (o.enforce_strictness ≡ true) site scalars.Boolean boolean (lawful o) old sound due within (is_other scalars.Boolean) refl new found result
+      takes (json_reader o) site scalars.Boolean boolean (lawful o) old sound due within (is_other scalars.Boolean) refl new found result
       (if_some found _ _ (λ r. boolean_stands o old site r.0 r.1) here)
       (if_none found _ _ (λ nothing. (no_boolean_stands o old site nothing, no_boolean_stands (without_limits o) old site nothing)) none)
 
@@ -114,23 +114,23 @@ module _ (o : Settings) (old : Cursor) (site : Site) (sound : old.failed ≡ fal
   pub reads_text : {A : Type 0} (text_of : A → List ℕ) (new : Cursor) (found : Result (Option (A × ℕ)) AllocError) (result : Result A SerdeError)
       → IfOk found (λ f. MatchOption f ((t : List ℕ) (e : ℕ) → TextLies (json_grammar o) old.input old.at t e → ⊥) (λ r. TextLies (json_grammar o) old.input old.at (text_of r.0) r.1))
       → Takes old new found result
-      → ReadsScalar (json_relations o) (json_relations (without_limits o)) (o.enforce_strictness ≡ true) old new site scalars.String (λ x. text (text_of x)) (told (is_other scalars.String) result)
+      → ReadsScalar (json_reader o) old new site scalars.String (λ x. text (text_of x)) (told (is_other scalars.String) result)
   reads_text text_of new found result here =
-      takes_found (json_relations o) (json_relations (without_limits o)) (o.enforce_strictness ≡ true) site scalars.String (λ x. text (text_of x)) (lawful o) old sound due within (is_other scalars.String) refl new found result
+      takes_found (json_reader o) site scalars.String (λ x. text (text_of x)) (lawful o) old sound due within (is_other scalars.String) refl new found result
       (if_ok found _ _ (λ a. if_matched a _ _ _ _ (λ none. (no_text_stands o old site none, no_text_stands (without_limits o) old site none)) (λ r. text_stands o old site (text_of r.0) r.1)) here)
 
   -- of bytes, wherever they are kept
   pub reads_bytes : {A : Type 0} (bytes_in : A → List ℕ) (new : Cursor) (found : Result (Option (A × ℕ)) AllocError) (result : Result A SerdeError)
       → IfOk found (λ f. MatchOption f ((b : List ℕ) (e : ℕ) → BlobLies (json_grammar o) old.input old.at b e → ⊥) (λ r. BlobLies (json_grammar o) old.input old.at (bytes_in r.0) r.1))
       → Takes old new found result
-      → ReadsScalar (json_relations o) (json_relations (without_limits o)) (o.enforce_strictness ≡ true) old new site scalars.Blob (λ x. bytes (bytes_in x)) (told (is_other scalars.Blob) result)
+      → ReadsScalar (json_reader o) old new site scalars.Blob (λ x. bytes (bytes_in x)) (told (is_other scalars.Blob) result)
   reads_bytes bytes_in new found result here =
-      takes_found (json_relations o) (json_relations (without_limits o)) (o.enforce_strictness ≡ true) site scalars.Blob (λ x. bytes (bytes_in x)) (lawful o) old sound due within (is_other scalars.Blob) refl new found result
+      takes_found (json_reader o) site scalars.Blob (λ x. bytes (bytes_in x)) (lawful o) old sound due within (is_other scalars.Blob) refl new found result
       (if_ok found _ _ (λ a. if_matched a _ _ _ _ (λ none. (no_blob_stands o old site none, no_blob_stands (without_limits o) old site none)) (λ r. blob_stands o old site (bytes_in r.0) r.1)) here)
 
   -- of bytes
   pub reads_blob : (new : Cursor) (found : Result (Option (List ℕ × ℕ)) AllocError) (result : Result (List ℕ) SerdeError)
       → IfOk found (λ f. MatchOption f ((b : List ℕ) (e : ℕ) → BlobLies (json_grammar o) old.input old.at b e → ⊥) (λ r. BlobLies (json_grammar o) old.input old.at r.0 r.1))
       → Takes old new found result
-      → ReadsScalar (json_relations o) (json_relations (without_limits o)) (o.enforce_strictness ≡ true) old new site scalars.Blob bytes (told (is_other scalars.Blob) result)
+      → ReadsScalar (json_reader o) old new site scalars.Blob bytes (told (is_other scalars.Blob) result)
   reads_blob = reads_bytes (λ b. b)

@@ -7,27 +7,24 @@ use std::alloc::Global;
 use std::borrow::{CowSlice, CowStr};
 
 impl<'a> BorrowDeserializer<'a> for JsonDeserializer<'_, 'a> {
-    ghost use Rattle.std.specs.Prelude.{◌≡◌, true, IfOk, IsErrOf};
+    ghost use Rattle.std.specs.Prelude.{◌≡◌, IfOk};
     ghost use Rattle.std.specs.Cow.{cow_str_bytes, cow_slice_items, IsBorrowedStr, IsOwnedSlice};
     ghost use Rattle.smithy_declarations.specs.declared.shape_type.Scalar.TheVariants as scalars;
     ghost use Rattle.smithy_declarations.specs.Value.{text, bytes};
     ghost use Rattle.smithy_shapes.specs.Site.{site_of};
+    ghost use Rattle.smithy_schema.specs.Borrowing.{Borrows};
     ghost use Rattle.smithy_schema.specs.Reading.{ReadsScalar};
-    ghost use Rattle.smithy_json_values.specs.Borrowed.{BorrowsText, LiesEscaped};
+    ghost use Rattle.smithy_json_values.specs.Borrowed.{texts_borrow};
     ghost use Rattle.smithy_json_codec.specs.Cursor.{cursor_of, reading_settings_of, reader_settings_of};
-    ghost use Rattle.smithy_json_values.specs.Settings.{keep_limits, without_limits};
-    ghost use Rattle.smithy_json_values.specs.Standing.{json_grammar, json_relations};
+    ghost use Rattle.smithy_json_values.specs.Standing.{json_grammar, json_reader};
 
     #[inline(always)]
     fn read_text(&mut self, _schema: &Schema<'_>) -> Result<CowStr<'a, Global>, SerdeError>
         ensures same { reader_settings_of self.new ≡ reader_settings_of self.old }
-        ensures read { ReadsScalar (json_relations (keep_limits (reading_settings_of self.old))) (json_relations (without_limits (reading_settings_of self.old))) ((reading_settings_of self.old).enforce_strictness ≡ true) (cursor_of self.old) (cursor_of self.new) (site_of _schema.now) scalars.String (λ s. text (cow_str_bytes s)) result }
+        ensures read { ReadsScalar (json_reader (reading_settings_of self.old)) (cursor_of self.old) (cursor_of self.new) (site_of _schema.now) scalars.String (λ s. text (cow_str_bytes s)) result }
 
-        // Borrowed exactly where no backslash stands in the string.
-        ensures borrowed { IfOk result (λ t. BorrowsText (json_grammar (reading_settings_of self.old)) (cursor_of self.old).input (cursor_of self.old).at (IsBorrowedStr t) (cursor_of self.new).at) }
-
-        // Only a string with a backslash takes memory.
-        ensures memory { IsErrOf result SerdeError.NoMemory → LiesEscaped (json_grammar (reading_settings_of self.old)) (cursor_of self.old).input (cursor_of self.old).at }
+        // Borrowed exactly where no backslash stands in the string, and only a string with one takes memory.
+        ensures borrows { Borrows (texts_borrow (json_grammar (reading_settings_of self.old))) IsBorrowedStr (cursor_of self.old) (cursor_of self.new) result }
     {
         self.walk.ready()?;
         let input = self.walk.input;
@@ -39,7 +36,7 @@ impl<'a> BorrowDeserializer<'a> for JsonDeserializer<'_, 'a> {
 
     fn read_bytes(&mut self, _schema: &Schema<'_>) -> Result<CowSlice<'a, u8, Global>, SerdeError>
         ensures same { reader_settings_of self.new ≡ reader_settings_of self.old }
-        ensures read { ReadsScalar (json_relations (keep_limits (reading_settings_of self.old))) (json_relations (without_limits (reading_settings_of self.old))) ((reading_settings_of self.old).enforce_strictness ≡ true) (cursor_of self.old) (cursor_of self.new) (site_of _schema.now) scalars.Blob (λ b. bytes (cow_slice_items b)) result }
+        ensures read { ReadsScalar (json_reader (reading_settings_of self.old)) (cursor_of self.old) (cursor_of self.new) (site_of _schema.now) scalars.Blob (λ b. bytes (cow_slice_items b)) result }
 
         // The bytes are never borrowed, as a string holds them as base64.
         ensures owned { IfOk result IsOwnedSlice }

@@ -32,18 +32,18 @@ pub struct JsonDeserializer<'c, 'a> {
 }
 
 impl ShapeDeserializer for JsonDeserializer<'_, '_> {
-    ghost use Rattle.std.specs.Prelude.{◌≡◌, ◌≤◌, ℕ, Some, true, false, refl, IfOk, IsOk, IsErr, IsErrOf};
+    ghost use Rattle.std.specs.Prelude.{◌≡◌, ◌≤◌, ℕ, Some, true, false, refl, IfOk, IsOk, IsErrOf};
     ghost use Rattle.smithy_schema.specs.Errors.{IsRefused, IsInvalid};
     ghost use Rattle.smithy_schema.specs.Containers.{GoesOnInStructure};
     ghost use Rattle.smithy_schema.specs.Passing.{ReadsNull, SkipsValue};
     ghost use Rattle.smithy_schema.specs.Reading.{depth, in_structure, ReadsDocument, ReadsScalar, AnswersWide, NullsNot, SkipsNot, null_is_due};
-    ghost use Rattle.smithy_declarations.specs.Table.{IsStructure, HasMembers};
+    ghost use Rattle.smithy_declarations.specs.Table.{HasMembers};
     ghost use Rattle.smithy_shapes.specs.Site.{site_of, kind_at};
     ghost use Rattle.smithy_schema.specs.declared.error.SerdeError.TheVariants.{NoMemory, NotCarried, TooDeep};
     ghost use Rattle.smithy_json_codec.specs.Cursor.{cursor_of, reading_settings_of, reader_settings_of};
     ghost use Rattle.smithy_json_values.specs.Settings.{keep_limits, without_limits};
     ghost use Rattle.smithy_json_settings.specs.Settings.{CodecSettings};
-    ghost use Rattle.smithy_json_values.specs.Standing.{json_grammar, json_relations};
+    ghost use Rattle.smithy_json_values.specs.Standing.{json_grammar, json_relations, json_reader};
     ghost use Rattle.smithy_json_codec.specs.ContainerSize.{json_sizes};
     ghost use Rattle.smithy_json_values.specs.Deepest.{OpensTooDeep};
     ghost use Rattle.smithy_types.specs.DocumentView.{document_view};
@@ -64,15 +64,8 @@ impl ShapeDeserializer for JsonDeserializer<'_, '_> {
 
     ghost state = { cursor_of };
 
-    ghost max_depth = { λ (c : CodecSettings). c.json.max_depth };
-
     // A reader keeps the limits, whatever the settings say of them.
-    ghost wire = { λ c. json_relations (keep_limits c.json) };
-
-    ghost lifted = { λ c. json_relations (without_limits c.json) };
-
-    // All that is said of the lifted relations holds where reading is strict.
-    ghost tells_without_limits = { λ (c : CodecSettings). c.json.enforce_strictness ≡ true };
+    ghost reading = { λ c. json_reader (keep_limits c.json) };
 
     ghost lawful = { λ c. json_is_lawful (keep_limits c.json) };
 
@@ -119,7 +112,7 @@ impl ShapeDeserializer for JsonDeserializer<'_, '_> {
         requires within { (cursor_of self.old).inner.within ≡ in_structure }
         requires place { HasMembers (kind_at (site_of schema.now)) }
         ensures same { reader_settings_of self.new ≡ reader_settings_of self.old }
-        ensures goes_on { GoesOnInStructure (json_relations (reading_settings_of self.old)) (json_relations (without_limits (reading_settings_of self.old))) ((reading_settings_of self.old).enforce_strictness ≡ true) (reading_settings_of self.old).max_depth (cursor_of self.old) (cursor_of self.new) (site_of schema.now) result }
+        ensures goes_on { GoesOnInStructure (json_reader (reading_settings_of self.old)) (cursor_of self.old) (cursor_of self.new) (site_of schema.now) result }
 
         // `TooDeep` comes only of a container that begins at the greatest depth, in the value that is skipped here or in the
         // value of a mark behind it.
@@ -191,7 +184,7 @@ impl ShapeDeserializer for JsonDeserializer<'_, '_> {
     // Where no null is due, and the reader hasn't failed, the call does nothing.
     fn read_null(&mut self) -> Result<(), SerdeError>
         ensures same { reader_settings_of self.new ≡ reader_settings_of self.old }
-        ensures reads { ReadsNull (json_relations (reading_settings_of self.old)) (json_relations (without_limits (reading_settings_of self.old))) ((reading_settings_of self.old).enforce_strictness ≡ true) (cursor_of self.old) (cursor_of self.new) result }
+        ensures reads { ReadsNull (json_reader (reading_settings_of self.old)) (cursor_of self.old) (cursor_of self.new) result }
 
         // A refusal speaks of the lifted limits where reading isn't strict, too.
         ensures none_without_limits { null_is_due (json_relations (reading_settings_of self.old)) (cursor_of self.old) ≡ true → IsInvalid result → NullsNot (json_relations (without_limits (reading_settings_of self.old))) (cursor_of self.old) }
@@ -215,7 +208,7 @@ impl ShapeDeserializer for JsonDeserializer<'_, '_> {
     // Skipping takes no memory, so it is never refused for want of memory.
     fn skip_value(&mut self) -> Result<(), SerdeError>
         ensures same { reader_settings_of self.new ≡ reader_settings_of self.old }
-        ensures skips { SkipsValue (json_relations (reading_settings_of self.old)) (json_relations (without_limits (reading_settings_of self.old))) ((reading_settings_of self.old).enforce_strictness ≡ true) (reading_settings_of self.old).max_depth (cursor_of self.old) (cursor_of self.new) result }
+        ensures skips { SkipsValue (json_reader (reading_settings_of self.old)) (cursor_of self.old) (cursor_of self.new) result }
 
         // A refusal speaks of the lifted limits where reading isn't strict, too.
         ensures none_without_limits { IsInvalid result → (cursor_of self.old).due ≡ true → SkipsNot (json_relations (without_limits (reading_settings_of self.old))) (cursor_of self.old) }
@@ -306,7 +299,7 @@ impl ShapeDeserializer for JsonDeserializer<'_, '_> {
 
     fn read_big_integer(&mut self, _schema: &Schema<'_>) -> Result<BigInteger, SerdeError>
         ensures same { reader_settings_of self.new ≡ reader_settings_of self.old }
-        ensures read { ReadsScalar (json_relations (reading_settings_of self.old)) (json_relations (without_limits (reading_settings_of self.old))) ((reading_settings_of self.old).enforce_strictness ≡ true) (cursor_of self.old) (cursor_of self.new) (site_of _schema.now) scalars.BigInteger (λ n. whole (number n)) result }
+        ensures read { ReadsScalar (json_reader (reading_settings_of self.old)) (cursor_of self.old) (cursor_of self.new) (site_of _schema.now) scalars.BigInteger (λ n. whole (number n)) result }
         ensures wide { AnswersWide (json_relations (reading_settings_of self.old)) (cursor_of self.old) (site_of _schema.now) scalars.BigInteger result }
         ensures fits { IfOk result (λ n. FitsSigned w128 (number n)) }
 
@@ -323,7 +316,7 @@ impl ShapeDeserializer for JsonDeserializer<'_, '_> {
 
     fn read_big_decimal(&mut self, _schema: &Schema<'_>) -> Result<BigDecimal, SerdeError>
         ensures same { reader_settings_of self.new ≡ reader_settings_of self.old }
-        ensures read { ReadsScalar (json_relations (reading_settings_of self.old)) (json_relations (without_limits (reading_settings_of self.old))) ((reading_settings_of self.old).enforce_strictness ≡ true) (cursor_of self.old) (cursor_of self.new) (site_of _schema.now) scalars.BigDecimal (λ n. decimal (mantissa n) (net_exponent n)) result }
+        ensures read { ReadsScalar (json_reader (reading_settings_of self.old)) (cursor_of self.old) (cursor_of self.new) (site_of _schema.now) scalars.BigDecimal (λ n. decimal (mantissa n) (net_exponent n)) result }
         ensures wide { AnswersWide (json_relations (reading_settings_of self.old)) (cursor_of self.old) (site_of _schema.now) scalars.BigDecimal result }
         ensures fits { IfOk result (λ n. FitsSigned w128 (mantissa n)) }
 
@@ -350,7 +343,7 @@ impl ShapeDeserializer for JsonDeserializer<'_, '_> {
 
     fn read_document(&mut self, _schema: &Schema<'_>) -> Result<Document, SerdeError>
         ensures same { reader_settings_of self.new ≡ reader_settings_of self.old }
-        ensures read { ReadsDocument (json_relations (reading_settings_of self.old)) (json_relations (without_limits (reading_settings_of self.old))) ((reading_settings_of self.old).enforce_strictness ≡ true) (reading_settings_of self.old).max_depth (cursor_of self.old) (cursor_of self.new) (site_of _schema.now) result }
+        ensures read { ReadsDocument (json_reader (reading_settings_of self.old)) (cursor_of self.old) (cursor_of self.new) (site_of _schema.now) result }
 
         // `TooDeep` comes only of a value of the document inside of as many containers as may be open. `NotCarried` comes only of
         // a number of the document that no document holds.

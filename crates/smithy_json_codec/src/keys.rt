@@ -9,12 +9,12 @@ use crate::deserializer::JsonDeserializer;
 use crate::frames::frame;
 use smithy_json_values::places::{InObject, next_in_object};
 use smithy_json_values::texts::{owned_text, span_of};
-use smithy_schema::{SerdeError, TextSpan, TextView};
+use smithy_schema::{SerdeError, TextPiece, TextSpan};
 use smithy_wire::ContainerKind;
 use std::alloc::{AllocError, Global};
 
 // What a call hands out for a key.
-pub(crate) trait Key: TextView + Sized {
+pub(crate) trait Key: TextPiece + Sized {
     // The key of a raw name that begins at the place, if its escapes are sound.
     fn of_name(
         alloc: Global,
@@ -23,7 +23,7 @@ pub(crate) trait Key: TextView + Sized {
         is_escaped: bool,
     ) -> Result<Option<Self>, AllocError>
         requires { is_escaped ≡ has_escape raw.now }
-        ensures { IfOk result (IsMeantFrom Self.bytes_of Self.stands Self.lies at raw.now) };
+        ensures { IfOk result (IsMeantFrom Self.bytes_of Self.is_placed Self.is_between at raw.now) };
 }
 
 impl Key for String {
@@ -52,17 +52,16 @@ impl Key for TextSpan {
 
 impl JsonDeserializer<'_, '_> {
     ghost use Rattle.smithy_json_codec.specs.Cursor.{cursor_of, reading_settings_of, reader_settings_of};
-    ghost use Rattle.smithy_json_values.specs.Settings.{without_limits};
-    ghost use Rattle.smithy_json_values.specs.Standing.{json_relations};
+    ghost use Rattle.smithy_json_values.specs.Standing.{json_reader};
 
     // Goes on in the map, to its next key or behind its end.
     #[inline(always)]
     pub(crate) fn next_key_as<K: Key>(&mut self) -> Result<Option<K>, SerdeError>
         requires within { (cursor_of self.old).inner.within ≡ in_map }
         ensures same { reader_settings_of self.new ≡ reader_settings_of self.old }
-        ensures goes_on { GoesOnInMap (json_relations (reading_settings_of self.old)) (json_relations (without_limits (reading_settings_of self.old))) ((reading_settings_of self.old).enforce_strictness ≡ true) (K.bytes_of (cursor_of self.old).input) (cursor_of self.old) (cursor_of self.new) result }
-        ensures stands { IfOk result (λ next. MatchOption next (Unit {0}) (K.stands (cursor_of self.old).input)) }
-        ensures lies { IfOk result (λ next. MatchOption next (Unit {0}) (K.lies (cursor_of self.old).at (cursor_of self.new).at)) }
+        ensures goes_on { GoesOnInMap (json_reader (reading_settings_of self.old)) (K.bytes_of (cursor_of self.old).input) (cursor_of self.old) (cursor_of self.new) result }
+        ensures placed { IfOk result (λ next. MatchOption next (Unit {0}) (K.is_placed (cursor_of self.old).input)) }
+        ensures between { IfOk result (λ next. MatchOption next (Unit {0}) (K.is_between (cursor_of self.old).at (cursor_of self.new).at)) }
     {
         if self.walk.failed {
             return Err(self.walk.refuse(SerdeError::Failed));

@@ -10,14 +10,14 @@ use smithy_wire::ContainerKind;
 impl JsonDeserializer<'_, '_> {
     ghost use Rattle.std.specs.Prelude.{◌≡◌, ◌≤◌, ◌↔◌, ℕ, length, IsTrue, IsErrOf, true, false};
     ghost use Rattle.smithy_schema.specs.Containers.{GoesOnInStructure};
-    ghost use Rattle.smithy_schema.specs.Reading.{depth, in_structure};
+    ghost use Rattle.smithy_schema.specs.Reading.{depth, in_structure, reader};
     ghost use Rattle.smithy_declarations.specs.Table.{HasMembers};
     ghost use Rattle.smithy_shapes.specs.Site.{site_of, kind_at};
     ghost use Rattle.smithy_schema.specs.declared.error.SerdeError.TheVariants.{TooDeep};
     ghost use Rattle.smithy_json_codec.specs.Cursor.{cursor_of, reading_settings_of, reader_settings_of};
     ghost use Rattle.smithy_json_values.specs.Deepest.{OpensTooDeep};
     ghost use Rattle.smithy_json_values.specs.Settings.{without_limits};
-    ghost use Rattle.smithy_json_values.specs.Standing.{json_grammar, json_relations};
+    ghost use Rattle.smithy_json_values.specs.Standing.{json_grammar, json_relations, json_reader};
     ghost use Rattle.smithy_wire.specs.Stepping.{StepsFrom};
     ghost use Rattle.smithy_json_codec.specs.Private.MemberSteps.{EndsEmpty};
 
@@ -47,7 +47,7 @@ impl JsonDeserializer<'_, '_> {
         requires inside { (cursor_of self.old).inner.within ≡ in_structure }
         requires place { HasMembers (kind_at (site_of schema.now)) }
         ensures same { reader_settings_of self.new ≡ reader_settings_of self.old }
-        ensures steps { StepsFrom (json_relations (reading_settings_of self.old)) (json_relations (without_limits (reading_settings_of self.old))) (reading_settings_of self.old).max_depth (cursor_of self.old) at (cursor_of self.new) (site_of schema.now) result }
+        ensures steps { StepsFrom (json_reader (reading_settings_of self.old)) (cursor_of self.old) at (cursor_of self.new) (site_of schema.now) result }
         ensures too_deep { IsErrOf result TooDeep
             → (q : ℕ) × (at ≤ q) × OpensTooDeep (json_grammar (reading_settings_of self.old)) (reading_settings_of self.old).max_depth (depth (cursor_of self.old)) (cursor_of self.old).input q }
     {
@@ -89,7 +89,7 @@ impl JsonDeserializer<'_, '_> {
         requires inside { (cursor_of self.old).inner.within ≡ in_structure }
         requires place { HasMembers (kind_at (site_of schema.now)) }
         ensures same { reader_settings_of self.new ≡ reader_settings_of self.old }
-        ensures goes_on { GoesOnInStructure (json_relations (reading_settings_of self.old)) (json_relations (without_limits (reading_settings_of self.old))) (Unit {0}) (reading_settings_of self.old).max_depth (cursor_of self.old) (cursor_of self.new) (site_of schema.now) result }
+        ensures goes_on { GoesOnInStructure (reader (json_relations (reading_settings_of self.old)) (json_relations (without_limits (reading_settings_of self.old))) (Unit {0}) (reading_settings_of self.old).max_depth) (cursor_of self.old) (cursor_of self.new) (site_of schema.now) result }
         ensures too_deep { IsErrOf result TooDeep
             → (q : ℕ) × ((cursor_of self.old).at ≤ q) × OpensTooDeep (json_grammar (reading_settings_of self.old)) (reading_settings_of self.old).max_depth (depth (cursor_of self.old)) (cursor_of self.old).input q }
     {

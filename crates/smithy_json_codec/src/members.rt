@@ -1,15 +1,13 @@
 //! Which member of an object comes next, behind the entries that are passed over.
 
-ghost use Rattle.std.specs.Prelude.{◌≡◌, ◌≤◌, ◌+◌, ◌↔◌, ℕ, true, length, drop, IfOk, IfErr, IfSome, IfNone, IsErrOf, IsTrue};
+ghost use Rattle.std.specs.Prelude.{◌≡◌, ◌≤◌, ◌↔◌, ℕ, true, length, IfSome, IfNone, IsTrue};
 ghost use Rattle.smithy_shapes.specs.Site.{site_of, kind_at};
 ghost use Rattle.smithy_declarations.specs.Table.{IsDocument};
 ghost use Rattle.smithy_json_values.specs.Codec.{held_settings, held_grammar};
-ghost use Rattle.smithy_json_values.specs.Deepest.{OpensTooDeep};
 ghost use Rattle.smithy_json_values.specs.LexicalGrammar.{frames_of};
-ghost use Rattle.smithy_json_values.specs.Openers.{json_openers};
-ghost use Rattle.smithy_json_codec.specs.declared.members.EntryFault.TheVariants.{NoEntry, TooDeep, NoMemory};
+ghost use Rattle.smithy_json_codec.specs.declared.members.EntryFault.TheVariants.{NoMemory};
 ghost use Rattle.smithy_json_codec.specs.Private.MemberSteps.{StepsTo, passing, passes_marks, passes_null};
-ghost use Rattle.smithy_json_codec.specs.Private.PassedEntries.{entry_fault, entry_refusal, type_name, IsEntry, IsNext, EntryMissing, NothingComes, NoSkip, NoSkipWithin};
+ghost use Rattle.smithy_json_codec.specs.Private.PassedEntries.{entry_fault, entry_refusal, type_name, IsEntry, IsNext, EntryMissing, NothingComes, FindsNext};
 
 use smithy_json_settings::Settings;
 use smithy_json_values::input::Input;
@@ -157,11 +155,8 @@ fn entry_at<'a>(
 ) -> Result<Entry<'a>, EntryFault>
     requires within { at ≤ length input.now.bytes.now }
     requires shallow { depth ≤ input.now.settings.max_depth }
-    ensures ok { IfOk result (IsEntry (held_grammar input.now.settings) (passing (held_settings input.now.settings) (site_of schema.now)) input.now.settings.max_depth depth input.now.bytes.now at entered) }
-    ensures refused { IfErr result (λ e. (e ≡ NoMemory → ⊥) → EntryMissing (held_grammar input.now.settings) (NoSkipWithin (held_grammar input.now.settings) input.now.settings.max_depth depth input.now.bytes.now) (passing (held_settings input.now.settings) (site_of schema.now)) depth input.now.bytes.now at entered) }
-    ensures none_without_limits { IsErrOf result NoEntry → EntryMissing (held_grammar input.now.settings) (NoSkip (held_grammar input.now.settings) depth input.now.bytes.now) (passing (held_settings input.now.settings) (site_of schema.now)) depth input.now.bytes.now at entered }
-    ensures deep { IsErrOf result TooDeep → input.now.settings.max_depth ≤ depth + json_openers (drop at input.now.bytes.now) }
-    ensures too_deep { IsErrOf result TooDeep → (q : ℕ) × (at ≤ q) × OpensTooDeep (held_grammar input.now.settings) input.now.settings.max_depth depth input.now.bytes.now q }
+    ensures { let g = held_grammar input.now.settings in let passed = passing (held_settings input.now.settings) (site_of schema.now) in let most = input.now.settings.max_depth in
+        FindsNext g most depth input.now.bytes.now at (IsEntry g passed most depth input.now.bytes.now at entered) (λ Stays. EntryMissing g Stays passed depth input.now.bytes.now at entered) result }
 {
     let name = match next_in_object(input.bytes, at, entered, depth, &input.settings) {
         Some(InObject::Member(name)) => name,
@@ -193,11 +188,8 @@ pub(crate) fn next_present<'a>(
 ) -> Result<Next<'a>, EntryFault>
     requires within { at ≤ length input.now.bytes.now }
     requires shallow { depth ≤ input.now.settings.max_depth }
-    ensures ok { IfOk result (IsNext (held_grammar input.now.settings) (passing (held_settings input.now.settings) (site_of schema.now)) input.now.settings.max_depth depth input.now.bytes.now at entered) }
-    ensures refused { IfErr result (λ e. (e ≡ NoMemory → ⊥) → NothingComes (held_grammar input.now.settings) (NoSkipWithin (held_grammar input.now.settings) input.now.settings.max_depth depth input.now.bytes.now) (passing (held_settings input.now.settings) (site_of schema.now)) input.now.settings.max_depth depth input.now.bytes.now at entered) }
-    ensures none_without_limits { IsErrOf result NoEntry → NothingComes (held_grammar input.now.settings) (NoSkip (held_grammar input.now.settings) depth input.now.bytes.now) (passing (held_settings input.now.settings) (site_of schema.now)) input.now.settings.max_depth depth input.now.bytes.now at entered }
-    ensures deep { IsErrOf result TooDeep → input.now.settings.max_depth ≤ depth + json_openers (drop at input.now.bytes.now) }
-    ensures too_deep { IsErrOf result TooDeep → (q : ℕ) × (at ≤ q) × OpensTooDeep (held_grammar input.now.settings) input.now.settings.max_depth depth input.now.bytes.now q }
+    ensures { let g = held_grammar input.now.settings in let passed = passing (held_settings input.now.settings) (site_of schema.now) in let most = input.now.settings.max_depth in
+        FindsNext g most depth input.now.bytes.now at (IsNext g passed most depth input.now.bytes.now at entered) (λ Stays. NothingComes g Stays passed most depth input.now.bytes.now at entered) result }
 {
     let mut at = at;
     let mut entered = entered;

@@ -10,7 +10,7 @@ use Rattle.smithy_declarations.specs.declared.place.Place.{Place}
 use Rattle.smithy_declarations.specs.Table.{document_place}
 use Rattle.smithy_shapes.specs.Site.{Site}
 use Rattle.smithy_schema.specs.Errors.{IsFault, FindsNone}
-use Rattle.smithy_schema.specs.Reading.{Cursor, depth, StandsNot, ReadsDocument, passed_to, failed_at}
+use Rattle.smithy_schema.specs.Reading.{Cursor, depth, StandsNot, ReadsDocument, reader, passed_to, failed_at}
 use Rattle.smithy_json_values.specs.declared.documents.DocumentFault.{DocumentFault}
 use Rattle.smithy_json_values.specs.declared.documents.DocumentFault.TheVariants.{NoDocument, TooDeep, NotCarried, NoMemory}
 use Rattle.smithy_json_values.specs.Settings.{Settings, kept, without_limits}
@@ -65,14 +65,14 @@ module _ (g : LexicalGrammar) (o : Settings) (keeps : o.limits ≡ kept) (old : 
   module _ (sound : old.failed ≡ false) (due : old.due ≡ true) (within : old.at ≤ length old.input) where
     -- of a document
     pub reads_document : (new : Cursor) (x : code.Document) (e : ℕ) → DocumentStands g o (depth old) old.input old.at (document_view x) e → new ≡ passed_to old e
-        → ReadsDocument (token_relations g o) (token_relations g (without_limits o)) (o.enforce_strictness ≡ true) o.max_depth old new site (Ok x)
+        → ReadsDocument (reader (token_relations g o) (token_relations g (without_limits o)) (o.enforce_strictness ≡ true) o.max_depth) old new site (Ok x)
     reads_document new x e stands =
         reads (token_relations g o) (token_relations g (without_limits o)) (o.enforce_strictness ≡ true) o.max_depth site (lawful g o) old sound due within new x e
         (value_stands g o old.input (depth old) old.at site.table at refl (document_view x) e stands)
 
     -- where none was read
     pub refuses_document : (new : Cursor) → new ≡ failed_at old → (f : DocumentFault) → RefusesStanding g o (depth old) old.input old.at f
-        → ReadsDocument (token_relations g o) (token_relations g (without_limits o)) (o.enforce_strictness ≡ true) o.max_depth old new site (Err (document_refusal f))
+        → ReadsDocument (reader (token_relations g o) (token_relations g (without_limits o)) (o.enforce_strictness ≡ true) o.max_depth) old new site (Err (document_refusal f))
     refuses_document new stays NoDocument h =
         refuses (token_relations g o) (token_relations g (without_limits o)) (o.enforce_strictness ≡ true) o.max_depth site old new stays within sound
         (λ due. (none_there o h.1, none_there (without_limits o) h.0))

@@ -13,7 +13,7 @@ use Rattle.smithy_json_values.specs.Settings.{Settings}
 use Rattle.smithy_json_values.specs.LexicalGrammar.{LexicalGrammar}
 use Rattle.smithy_json_values.specs.Documents.{DocumentLies}
 use Rattle.smithy_json_values.specs.Private.TokenPlaces.{same_names, names_or_end}
-use Rattle.smithy_json_values.specs.Private.NextInContainer.{NamesIn, GoesOnInList, GoesOnInObject}
+use Rattle.smithy_json_values.specs.Private.NextInContainer.{NamesIn, GoesOnInArray, GoesOnInObject}
 use Rattle.smithy_json_values.specs.Private.OpenDocuments.{OpenContainer, open_array, open_object, Waiting, waiting_object, with_value, frames_view, name_text, EntryBegins, RefusesDocument, TakesEntry, TakesStep}
 use Rattle.smithy_json_values.proofs.DocumentFrames.{frames-length}
 use Rattle.smithy_json_values.proofs.DocumentWalk.{IsWalking, level-length, value_put, walk_ends}
@@ -48,7 +48,7 @@ module _ (g : LexicalGrammar) (c : Settings) (depth : ℕ) (input : List ℕ) (a
       → EntryBegins g input at entered (open_object ps) (waiting_object ps name) p
   member_begins ps raw name p names text = (raw, name, refl, names.0, text_of_name g raw names.1 ∙ text)
 
-  pub no_element_step : (ds : Documents Number) → GoesOnInList g input at entered 2 None → TakesStep g c depth input at entered (open_array ds) (Err NoDocument)
+  pub no_element_step : (ds : Documents Number) → GoesOnInArray g input at entered 2 None → TakesStep g c depth input at entered (open_array ds) (Err NoDocument)
   no_element_step ds none = inr (inl (refl, (λ w p h. none.0 p h.1, none.1)))
 
   pub no_member_step : (ps : Properties Number) → GoesOnInObject g input at entered 2 None → TakesStep g c depth input at entered (open_object ps) (Err NoDocument)

@@ -9,7 +9,7 @@ use Rattle.smithy_json_values.specs.Tokens.{BoundaryBy, EndsInside, IsNameToken,
 use Rattle.smithy_json_grammar.specs.Grammar.{IsWs}
 use Rattle.smithy_json_values.specs.Private.BytePlaces.{same_separated}
 use Rattle.smithy_json_values.specs.Private.TokenPlaces.{past_name, names_or_end}
-use Rattle.smithy_json_values.specs.Private.NextInContainer.{IsFirstByte, IsNotFirst, ClosesIn, ElementBegins, GoesOnInList, NameIsDue, GoesOnToName}
+use Rattle.smithy_json_values.specs.Private.NextInContainer.{IsFirstByte, IsNotFirst, ClosesIn, ElementBegins, GoesOnInArray, NameIsDue, GoesOnToName}
 use Rattle.smithy_json_values.proofs.FirstBytePlaces.{first_lies, same_first, not_first, nothing_first, without_all}
 
 -- ---- closing
@@ -34,7 +34,7 @@ no_element i at start true here c h =
 
 pub list_closes : (g : LexicalGrammar) (i : List ℕ) (at start : ℕ) (entered : Bool) (depth : ℕ) → IsFirstByte i at end_array start
     → (ends : Bool) → (IsTrue ends ↔ EndsInside (BoundaryBy g.is_strict) depth (drop (start + 1) i))
-    → GoesOnInList g i at entered depth (then_some ends (EndOfList (start + 1)))
+    → GoesOnInArray g i at entered depth (then_some ends (EndOfList (start + 1)))
 list_closes g i at start entered depth here true ends = closes g i at end_array start depth here (ends.0 refl)
 list_closes g i at start entered depth here false ends =
     (no_element i at start entered here, closes_not g i at end_array start depth here (λ follows. let no : false ≡ true = ends.1 follows in cc))
@@ -43,7 +43,7 @@ module _ (g : LexicalGrammar) (i : List ℕ) (at start : ℕ) (entered : Bool) (
   pub element_behind : IsNotFirst end_array i (start + 1) → ElementBegins i at entered (start + 1)
   element_behind none = rw is (first_lies i at value_separator start here, none)
 
-  pub comma_hangs : (e : ℕ) → Lies (IsByte end_array) i (start + 1) e → GoesOnInList g i at entered depth None
+  pub comma_hangs : (e : ℕ) → Lies (IsByte end_array) i (start + 1) e → GoesOnInArray g i at entered depth None
   comma_hangs e lies = (
     λ c h.
         let comma : Lies (IsByte value_separator) i at c = subst (λ m. IsSeparated m i at c) is h.0 in
@@ -53,7 +53,7 @@ module _ (g : LexicalGrammar) (i : List ℕ) (at start : ℕ) (entered : Bool) (
   )
 
 pub nothing_in_list : (g : LexicalGrammar) (i : List ℕ) (at : ℕ) (entered : Bool) (depth : ℕ) → entered ≡ true → IsNotFirst end_array i at → IsNotFirst value_separator i at
-    → GoesOnInList g i at entered depth None
+    → GoesOnInArray g i at entered depth None
 nothing_in_list g i at entered depth is shut none = (λ c h. none c (subst (λ m. IsSeparated m i at c) is h.0), λ e h. shut e h.0)
 
 pub element_first : (i : List ℕ) (at : ℕ) (entered : Bool) → entered ≡ false → IsNotFirst end_array i at → ElementBegins i at entered at

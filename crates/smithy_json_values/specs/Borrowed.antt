@@ -1,6 +1,7 @@
 -- Which texts borrow from the input, or are named by their places in it.
 use Rattle.std.specs.Prelude.{◌≡◌, ◌↔◌, ℕ, List, true, false}
 use Rattle.smithy_declarations.specs.declared.shape_type.Scalar.TheVariants as scalars
+use Rattle.smithy_schema.specs.Borrowing.{Borrowing}
 use Rattle.smithy_json_grammar.specs.Unescape.{has_escape}
 use Rattle.smithy_json_values.specs.LexicalGrammar.{LexicalGrammar, LiesInGrammar}
 use Rattle.smithy_json_values.specs.Scalar.{a_string}
@@ -15,3 +16,7 @@ pub record BorrowsText (g : LexicalGrammar) (input : List ℕ) (at : ℕ) (is_bo
 abbrev pub LiesEscaped : LexicalGrammar → List ℕ → ℕ → Type 0
 LiesEscaped g input at =
     (raw : List ℕ) × (e : ℕ) × LiesInGrammar g scalars.String (a_string raw) input at e × (has_escape raw ≡ true)
+
+-- only a string with a backslash takes memory
+abbrev pub texts_borrow : LexicalGrammar → Borrowing
+texts_borrow g = record { borrows = BorrowsText g; may_allocate = LiesEscaped g }

@@ -1,10 +1,10 @@
 -- Where JSON of RFC 8259 lies in an input, for the clauses of scanners, and the relations of reading it, by its tokens.
 use Rattle.std.specs.Prelude.{◌≡◌, ℕ, drop, List, [], ◌∷◌, ◌++◌, Bool, true}
-use Rattle.smithy_schema.specs.Reading.{Relations}
+use Rattle.smithy_schema.specs.Reading.{Relations, Reader, reader}
 use Rattle.smithy_json_grammar.specs.Ascii.{quotation_mark, name_separator}
 use Rattle.smithy_json_grammar.specs.Tree.{Json, null, boolean, number, string, array, object}
 use Rattle.smithy_json_grammar.specs.Grammar.{IsWs, IsStringText, IsValue, IsBoundary}
-use Rattle.smithy_json_values.specs.Settings.{Settings}
+use Rattle.smithy_json_values.specs.Settings.{Settings, without_limits}
 use Rattle.smithy_json_values.specs.Scalar.{JsonScalar}
 use Rattle.smithy_json_values.specs.Tokens.{EndsContainer, EndsInside, token_frames}
 use Rattle.smithy_json_values.specs.LexicalGrammar.{LexicalGrammar, grammar_of, rfc_8259, token_rules, token_relations}
@@ -24,6 +24,10 @@ json_rules c = token_rules (json_grammar c) c
 
 abbrev pub json_relations : Settings → Relations
 json_relations c = token_relations (json_grammar c) c
+
+-- what the calls of a reader of JSON are told by: all that is said of the lifted relations holds where reading is strict
+abbrev pub json_reader : Settings → Reader
+json_reader c = reader (json_relations c) (json_relations (without_limits c)) (c.enforce_strictness ≡ true) c.max_depth
 
 -- the framing, the rules and the relations by the grammar of RFC 8259
 abbrev pub json_frames : Frames JsonScalar

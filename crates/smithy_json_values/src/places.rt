@@ -10,7 +10,7 @@ ghost use Rattle.smithy_json_values.specs.LexicalGrammar.{frames_of};
 ghost use Rattle.smithy_json_values.specs.Spans.{Lies, IsByte, without_ws};
 ghost use Rattle.smithy_json_values.specs.Tokens.{BoundaryBy, IsOverBy, EndsInside, IsNameToken};
 ghost use Rattle.smithy_json_values.specs.TypeMismatch.{begins_by};
-ghost use Rattle.smithy_json_values.specs.Private.NextInContainer.{IsFirstByte, IsNotFirst, GoesOnInList, GoesOnToName, GoesOnInObject};
+ghost use Rattle.smithy_json_values.specs.Private.NextInContainer.{IsFirstByte, IsNotFirst, GoesOnInArray, GoesOnToName, GoesOnInObject};
 ghost use Rattle.smithy_json_values.specs.Private.PlacedTexts.{StandsFrom};
 
 use crate::values::{begins_with_null, may_follow, string_of};
@@ -129,7 +129,7 @@ pub fn next_in_list(
     settings: &Settings,
 ) -> Option<InList>
     requires { at ≤ length input.now }
-    ensures { GoesOnInList (held_grammar settings.now) input.now at entered depth result }
+    ensures { GoesOnInArray (held_grammar settings.now) input.now at entered depth result }
 {
     let Some((first, start)) = first_byte(input, at) else {
         return if entered {

@@ -5,8 +5,8 @@ use Rattle.smithy_schema.specs.declared.error.SerdeError.TheVariants.{InvalidInp
 use Rattle.smithy_shapes.specs.Site.{Site}
 use Rattle.smithy_declarations.specs.Value.{Value}
 use Rattle.smithy_schema.specs.Errors.{IsOfReader, IsOfCursor}
-use Rattle.smithy_schema.specs.Reading.{Cursor, ContainerKind, in_structure, in_list, Conducts, failed_at}
-use Rattle.smithy_schema.specs.Consuming.{Reader, Call, Route, Along, ended, refused, stopped, went, Consumes, unopened, entered, Rests, by_member, by_element}
+use Rattle.smithy_schema.specs.Reading.{Cursor, ContainerKind, in_structure, in_list, Conducts, failed_at, Reader}
+use Rattle.smithy_schema.specs.Consuming.{Call, Route, Along, ended, refused, stopped, went, Consumes, unopened, entered, Rests, by_member, by_element}
 use Rattle.smithy_schema.specs.Fields.{TakesField, took, passed, broke}
 use Rattle.smithy_schema.specs.Typed.{MayAnswer, FailsAsReader}
 use Rattle.smithy_schema.proofs.ConsumingLemmas.{same_error, is_error}

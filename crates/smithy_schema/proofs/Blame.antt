@@ -4,8 +4,8 @@ use Rattle.smithy_schema.specs.declared.error.SerdeError.{SerdeError}
 use Rattle.smithy_declarations.specs.Table.{kind_of, IsContainer}
 use Rattle.smithy_shapes.specs.Site.{Site}
 use Rattle.smithy_schema.specs.Errors.{IsFault, FindsNone}
-use Rattle.smithy_schema.specs.Reading.{Cursor, Relations, depth, IsLawful, IsBelow, Contains, StandsNot, OpensNot, CannotGoOn}
-use Rattle.smithy_schema.specs.Consuming.{Reader, Cleared, RefusesOpening, RefusesEntry, RefusesMember}
+use Rattle.smithy_schema.specs.Reading.{Cursor, Relations, depth, IsLawful, IsBelow, Contains, StandsNot, OpensNot, CannotGoOn, Reader}
+use Rattle.smithy_schema.specs.Consuming.{Cleared, RefusesOpening, RefusesEntry, RefusesMember}
 use Rattle.smithy_schema.proofs.ReadContainers.{itself}
 
 -- what a refusal with a blamed error says of the relations u

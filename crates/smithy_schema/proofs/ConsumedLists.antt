@@ -6,8 +6,8 @@ use Rattle.smithy_declarations.specs.Table.{Kind, list_of, place_in, IsList, IsS
 use Rattle.smithy_shapes.specs.Site.{Site, kind_at}
 use Rattle.smithy_declarations.specs.Value.{Value, list, values_of, null_element}
 use Rattle.smithy_schema.specs.Errors.{IsFault}
-use Rattle.smithy_schema.specs.Reading.{Cursor, Relations, depth, in_list, child_value, IsLawful, Reads, Passes, StandsNot, NullsNot, null_is_due}
-use Rattle.smithy_schema.specs.Consuming.{Reader, Call, Along, ended, refused, stopped, went, Consumes, unopened, entered, by_element, ToEntry}
+use Rattle.smithy_schema.specs.Reading.{Cursor, Relations, depth, in_list, child_value, IsLawful, Reads, Passes, StandsNot, NullsNot, null_is_due, Reader}
+use Rattle.smithy_schema.specs.Consuming.{Call, Along, ended, refused, stopped, went, Consumes, unopened, entered, by_element, ToEntry}
 use Rattle.smithy_schema.proofs.ConsumingLemmas.{same_error}
 use Rattle.smithy_schema.proofs.ReadContainers.{InContainer, itself, child_read, end, stuck}
 use Rattle.smithy_schema.proofs.ReadLists.{list_value, list_contains, begin_list, null_read, IsNoNull, element_child, element_refused, null_refused}

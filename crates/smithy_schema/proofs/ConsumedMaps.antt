@@ -6,8 +6,8 @@ use Rattle.smithy_declarations.specs.Table.{Kind, map_of, place_in, IsMap, IsSpa
 use Rattle.smithy_shapes.specs.Site.{Site, kind_at}
 use Rattle.smithy_declarations.specs.Value.{Value, map, null_element, MapEntries, no_map_entries, put_entry}
 use Rattle.smithy_schema.specs.Errors.{IsFault}
-use Rattle.smithy_schema.specs.Reading.{Cursor, Relations, depth, in_map, child_value, named, IsLawful, Reads, Passes, StandsNot}
-use Rattle.smithy_schema.specs.Consuming.{Reader, Call, Along, ended, refused, stopped, went, Consumes, unopened, entered, by_key, ToEntry}
+use Rattle.smithy_schema.specs.Reading.{Cursor, Relations, depth, in_map, child_value, named, IsLawful, Reads, Passes, StandsNot, Reader}
+use Rattle.smithy_schema.specs.Consuming.{Call, Along, ended, refused, stopped, went, Consumes, unopened, entered, by_key, ToEntry}
 use Rattle.smithy_schema.proofs.ConsumingLemmas.{same_error}
 use Rattle.smithy_schema.proofs.ReadContainers.{InContainer, itself, child_read, end, stuck}
 use Rattle.smithy_schema.proofs.ReadLists.{IsNoNull}

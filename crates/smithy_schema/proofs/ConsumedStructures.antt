@@ -5,8 +5,8 @@ use Rattle.smithy_declarations.specs.Table.{Kind, structure_of, IsStructure, IsS
 use Rattle.smithy_shapes.specs.Site.{Site, member_site, kind_at}
 use Rattle.smithy_declarations.specs.Value.{Value, MemberValues, no_member_values, put_member, structure}
 use Rattle.smithy_shapes.specs.Container.{members_from, container_of}
-use Rattle.smithy_schema.specs.Reading.{Cursor, in_structure, depth, Relations, Child, child_value, child_unknown, entry_of, Chain, IsLawful, Reads, Enters}
-use Rattle.smithy_schema.specs.Consuming.{Reader, Call, Rests, Cleared, nothing_due, skipped, Along, ended, refused, stopped, went, Consumes, unopened, entered, by_member, ToMember}
+use Rattle.smithy_schema.specs.Reading.{Cursor, in_structure, depth, Relations, Child, child_value, child_unknown, entry_of, Chain, IsLawful, Reads, Enters, Reader}
+use Rattle.smithy_schema.specs.Consuming.{Call, Rests, Cleared, nothing_due, skipped, Along, ended, refused, stopped, went, Consumes, unopened, entered, by_member, ToMember}
 use Rattle.smithy_schema.proofs.ConsumingLemmas.{cleared_input, cleared_outer}
 use Rattle.smithy_schema.proofs.ReadStructures.{site_told}
 

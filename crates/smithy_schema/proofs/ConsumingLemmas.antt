@@ -8,9 +8,9 @@ use Rattle.smithy_schema.specs.declared.step.Step.{Step}
 use Rattle.smithy_schema.specs.declared.step.Step.TheVariants.{Member as to_member_step, Unknown, End}
 use Rattle.smithy_shapes.specs.Site.{Site}
 use Rattle.smithy_schema.specs.Errors.{RefusesNoScalar, RefusesNoKind, IsNoAnswer, IsRefused, IsInvalid, IsOfCursor}
-use Rattle.smithy_schema.specs.Reading.{Cursor, Relations, ContainerKind, Frame, depth, Enters, Steps, Leaves, CannotGoOn, Conducts, IsBehind, IsLawful, MatchStep, passed_to}
+use Rattle.smithy_schema.specs.Reading.{Cursor, Relations, ContainerKind, Frame, depth, Enters, Steps, Leaves, CannotGoOn, Conducts, IsBehind, IsLawful, MatchStep, passed_to, Reader}
 use Rattle.smithy_schema.specs.Containers.{Opens, GoesOnInStructure}
-use Rattle.smithy_schema.specs.Consuming.{Reader, Call, Rests, IsTaken, Cleared, nothing_due, skipped, Route, Along, went, RefusesOpening, RefusesMember, RefusesEntry, ToMember, ToEnd, IsMemberOf, site_in}
+use Rattle.smithy_schema.specs.Consuming.{Call, Rests, IsTaken, Cleared, nothing_due, skipped, Route, Along, went, RefusesOpening, RefusesMember, RefusesEntry, ToMember, ToEnd, IsMemberOf, site_in}
 
 -- ---- refusals
 
@@ -57,7 +57,7 @@ was_due false h = absurd (h refl)
 
 -- an opening that was refused
 pub opening_refused : (r : Reader) (site : Site) (within : ContainerKind) (old new : Cursor) (e : SerdeError)
-    → Opens r.wire r.lifted r.tells_without_limits r.max_depth old new site within (Err e) → RefusesOpening r site old e
+    → Opens r old new site within (Err e) → RefusesOpening r site old e
 opening_refused r site within old new e opens = record {
   failed = (λ h. opens.conduct.failed.0 (is_error _ e Failed h), λ h. same_error _ e Failed (opens.conduct.failed.1 h));
   undue = opens.undue;
@@ -307,7 +307,7 @@ cannot_from : (w : Relations) (old from : Cursor) (site : Site) → Cleared w ol
 cannot_from w old from site (nothing_due none) here behind = here none
 cannot_from w old from site (skipped e due skips) here behind = behind due e skips
 
-pub member_refused : (r : Reader) (site : Site) (old new : Cursor) (e : SerdeError) → GoesOnInStructure r.wire r.lifted r.tells_without_limits r.max_depth old new site (Err e)
+pub member_refused : (r : Reader) (site : Site) (old new : Cursor) (e : SerdeError) → GoesOnInStructure r old new site (Err e)
     → RefusesMember r site old e
 member_refused r site old new e goes = record {
   failed = (λ h. goes.conduct.failed.0 (is_error Step e Failed h), λ h. same_error Step e Failed (goes.conduct.failed.1 h));

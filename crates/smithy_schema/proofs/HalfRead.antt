@@ -10,8 +10,8 @@ use Rattle.smithy_declarations.specs.Table.{place_in, IsContainer, IsList, IsMap
 use Rattle.smithy_shapes.specs.Site.{Site, site_of, kind_at}
 use Rattle.smithy_declarations.specs.Value.{Value, ScalarValue, scalar_value, union, MapEntries, put_entry}
 use Rattle.smithy_schema.specs.Errors.{IsFault}
-use Rattle.smithy_schema.specs.Reading.{Cursor, ContainerKind, in_structure, in_list, in_map, Relations, Child, child_value, named, depth, IsLawful, Steps, Leaves, MatchStep, Reads, ReadsScalar, StandsNot, OpensNot, CannotGoOn, Conducts, IsBehind}
-use Rattle.smithy_schema.specs.Consuming.{Reader, IsTaken}
+use Rattle.smithy_schema.specs.Reading.{Cursor, ContainerKind, in_structure, in_list, in_map, Relations, Child, child_value, named, depth, IsLawful, Steps, Leaves, MatchStep, Reads, ReadsScalar, StandsNot, OpensNot, CannotGoOn, Conducts, IsBehind, Reader}
+use Rattle.smithy_schema.specs.Consuming.{IsTaken}
 use Rattle.smithy_schema.proofs.ReadContainers.{InContainer, itself, child_read, end, stuck}
 use Rattle.smithy_schema.proofs.ReadLists.{list_value, IsNoNull, element_child, element_refused, element_falls}
 use Rattle.smithy_schema.proofs.ReadMaps.{map_value, value_child, entry_refused, entry_falls}
@@ -132,7 +132,7 @@ module _ (w : Relations) (max : ℕ) (laws : IsLawful w) where
 
 -- a scalar was read, of which the value was made
 pub scalar_variant : {A B : Type 0} (kind : Scalar) (scalar : A → ScalarValue) (view : B → Value) (r : Reader) (c d : Cursor) (member : Site) (n : ℕ) (x : A) (made : B) → member.view.index ≡ Some n → member.place.target ≡ Simple kind
-    → ReadsScalar {A = A} r.wire r.lifted r.tells_without_limits c d member kind scalar (Ok x) → view made ≡ union n (scalar_value (scalar x)) → ReadsVariant {A = B} r.wire c d member view (Ok made)
+    → ReadsScalar {A = A} r c d member kind scalar (Ok x) → view made ≡ union n (scalar_value (scalar x)) → ReadsVariant {A = B} r.wire c d member view (Ok made)
 scalar_variant kind scalar view r c d member n x made index target reads value = record {
   ok = (n, scalar_value (scalar x), index, value, read_there kind scalar r c d member x target reads);
   refused = λ fault. absurd fault;
@@ -140,7 +140,7 @@ scalar_variant kind scalar view r c d member n x made index target reads value =
 }
 
 pub scalar_fails : {A B : Type 0} (kind : Scalar) (scalar : A → ScalarValue) (view : B → Value) (r : Reader) (c d : Cursor) (member : Site) (e : SerdeError) → member.place.target ≡ Simple kind → c.due ≡ true
-    → ReadsScalar {A = A} r.wire r.lifted r.tells_without_limits c d member kind scalar (Err e) → ReadsVariant {A = B} r.wire c d member view (Err e)
+    → ReadsScalar {A = A} r c d member kind scalar (Err e) → ReadsVariant {A = B} r.wire c d member view (Err e)
 scalar_fails kind scalar view r c d member e target due reads = record {
   ok = tt;
   refused = λ fault. none_read_there kind scalar r c d member e target reads fault due;

@@ -11,8 +11,8 @@ use Rattle.smithy_shapes.specs.Site.{Site, kind_at, inner_site}
 use Rattle.smithy_declarations.specs.Value.{ScalarValue, Value, scalar_value}
 use Rattle.smithy_shapes.specs.Lemmas.Options.{same_some}
 use Rattle.smithy_schema.specs.Errors.{IsFault}
-use Rattle.smithy_schema.specs.Reading.{Cursor, ContainerKind, Relations, depth, in_list, IsLawful, IsBelow, Reads, ReadsScalar, StandsNot, failed_at}
-use Rattle.smithy_schema.specs.Consuming.{Reader, Call, Route, Along, ended, refused as stops, stopped, went, Consumes, unopened, entered, by_element}
+use Rattle.smithy_schema.specs.Reading.{Cursor, ContainerKind, Relations, depth, in_list, IsLawful, IsBelow, Reads, ReadsScalar, StandsNot, failed_at, Reader}
+use Rattle.smithy_schema.specs.Consuming.{Call, Route, Along, ended, refused as stops, stopped, went, Consumes, unopened, entered, by_element}
 use Rattle.smithy_schema.specs.Elements.{IsListOf, ReadsElement, put, refused, no_room, no_memory, read, broke, ReadsList}
 use Rattle.smithy_schema.proofs.ConsumingLemmas.{same_error}
 use Rattle.smithy_schema.proofs.ReadLists.{list_place}
@@ -101,7 +101,7 @@ module _ {A : Type 0} (s : Scalar) (scalar : A → ScalarValue) (r : Reader) (ou
   taken within q place xs ys d f result (no_room x reads) = tt
 
   none_there : (u : Relations) (Blames : SerdeError → Type 0) → (Blames NoMemory → ⊥)
-      → ((d f : Cursor) (e : SerdeError) → ReadsScalar {A = A} r.wire r.lifted r.tells_without_limits d f inner s scalar (Err e) → Blames e → d.due ≡ true → StandsNot u d inner.table (scalar_place s inner.place.time))
+      → ((d f : Cursor) (e : SerdeError) → ReadsScalar {A = A} r d f inner s scalar (Err e) → Blames e → d.due ≡ true → StandsNot u d inner.table (scalar_place s inner.place.time))
       → Inner s outer inner → (q : Place) → place_in (kind_at outer) None ≡ Some q
       → (xs ys : List A) (d f : Cursor) (result : Result (Unit {0}) SerdeError) → ReadsElement s scalar r inner xs d result ys f → (e : SerdeError) → result ≡ Err e → Blames e → d.due ≡ true
       → NoElement r u outer q d

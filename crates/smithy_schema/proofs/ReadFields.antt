@@ -17,8 +17,8 @@ use Rattle.smithy_shapes.specs.Site.{Site, kind_at, member_site}
 use Rattle.smithy_declarations.specs.Value.{Value, ScalarValue, scalar_value, MemberValues, no_member_values, member_value, put_member}
 use Rattle.smithy_shapes.specs.Lemmas.Options.{same_some}
 use Rattle.smithy_schema.specs.Errors.{IsFault}
-use Rattle.smithy_schema.specs.Reading.{Cursor, depth, in_structure, IsLawful, Reads, ReadsScalar, StandsNot}
-use Rattle.smithy_schema.specs.Consuming.{Reader, Consumes, by_member, IsTaken}
+use Rattle.smithy_schema.specs.Reading.{Cursor, depth, in_structure, IsLawful, Reads, ReadsScalar, StandsNot, Reader}
+use Rattle.smithy_schema.specs.Consuming.{Consumes, by_member, IsTaken}
 use Rattle.smithy_schema.specs.Fields.{members_at, structure_with, TakesField, took, passed, broke, FillsField, filled, refused}
 use Rattle.smithy_schema.proofs.ConsumingLemmas.{same_error, is_error}
 use Rattle.smithy_schema.proofs.DeclaredMembers.{structure_type}
@@ -158,12 +158,12 @@ simple_place : (s : Scalar) (p : Place) → p.target ≡ Simple s → scalar_pla
 simple_place s p h = ap (λ x. let q : Place = record { target = x; time = p.time } in q) (sym h)
 
 -- so a read of its kind is one of its place
-pub read_there : {A : Type 0} (s : Scalar) (scalar : A → ScalarValue) (r : Reader) (d f : Cursor) (site : Site) (x : A) → site.place.target ≡ Simple s → ReadsScalar {A = A} r.wire r.lifted r.tells_without_limits d f site s scalar (Ok x)
+pub read_there : {A : Type 0} (s : Scalar) (scalar : A → ScalarValue) (r : Reader) (d f : Cursor) (site : Site) (x : A) → site.place.target ≡ Simple s → ReadsScalar {A = A} r d f site s scalar (Ok x)
     → Reads r.wire d f site.table site.place (scalar_value (scalar x))
 read_there s scalar r d f site x is reads = subst (λ p. Reads r.wire d f site.table p (scalar_value (scalar x))) (simple_place s site.place is) reads.ok
 
 pub none_read_there : {A : Type 0} (s : Scalar) (scalar : A → ScalarValue) (r : Reader) (d f : Cursor) (site : Site) (e : SerdeError) → site.place.target ≡ Simple s
-    → ReadsScalar {A = A} r.wire r.lifted r.tells_without_limits d f site s scalar (Err e) → IsFault e → d.due ≡ true → StandsNot r.wire d site.table site.place
+    → ReadsScalar {A = A} r d f site s scalar (Err e) → IsFault e → d.due ≡ true → StandsNot r.wire d site.table site.place
 none_read_there s scalar r d f site e is reads fault due = subst (λ p. StandsNot r.wire d site.table p) (simple_place s site.place is) (reads.refused fault due)
 
 -- a member was read into its field, or couldn't be read

@@ -13,8 +13,8 @@ use Rattle.smithy_shapes.specs.Site.{Site, kind_at, inner_site}
 use Rattle.smithy_declarations.specs.Value.{text, MapEntries, no_map_entries, map_entry, put_entry}
 use Rattle.smithy_shapes.specs.Lemmas.Options.{same_some}
 use Rattle.smithy_schema.specs.Errors.{IsFault}
-use Rattle.smithy_schema.specs.Reading.{Cursor, Relations, in_map, IsLawful, IsBelow, Reads, ReadsScalar, StandsNot}
-use Rattle.smithy_schema.specs.Consuming.{Reader, Consumes, by_key}
+use Rattle.smithy_schema.specs.Reading.{Cursor, Relations, in_map, IsLawful, IsBelow, Reads, ReadsScalar, StandsNot, Reader}
+use Rattle.smithy_schema.specs.Consuming.{Consumes, by_key}
 use Rattle.smithy_schema.specs.TextMaps.{IsMapOfTexts, text_value, text_entries, ReadsEntry, put, refused, no_room, read, broke, ReadsTexts}
 use Rattle.smithy_schema.proofs.ConsumingLemmas.{same_error}
 use Rattle.smithy_schema.proofs.ReadMaps.{map_place}
@@ -95,7 +95,7 @@ module _ (r : Reader) (outer inner : Site) where
   taken within q place key es fs d f result (no_room x reads) = tt
 
   none_there : (u : Relations) (Blames : SerdeError → Type 0) → (Blames NoMemory → ⊥)
-      → ((d f : Cursor) (e : SerdeError) → ReadsScalar {A = String Global} r.wire r.lifted r.tells_without_limits d f inner scalars.String (λ s. text (string_bytes s)) (Err e) → Blames e → d.due ≡ true
+      → ((d f : Cursor) (e : SerdeError) → ReadsScalar {A = String Global} r d f inner scalars.String (λ s. text (string_bytes s)) (Err e) → Blames e → d.due ≡ true
       → StandsNot u d inner.table (scalar_place scalars.String inner.place.time))
       → Inner outer inner → (q : Place) → place_in (kind_at outer) None ≡ Some q
       → (key : List ℕ) (es fs : MapEntries) (d f : Cursor) (result : Result (Unit {0}) SerdeError) → ReadsEntry r inner key es d result fs f → (e : SerdeError) → result ≡ Err e → Blames e → d.due ≡ true

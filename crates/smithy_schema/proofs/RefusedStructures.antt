@@ -6,9 +6,9 @@ use Rattle.smithy_declarations.specs.Table.{Kind, structure_of, place_in, IsStru
 use Rattle.smithy_shapes.specs.Site.{Site, member_site, kind_at}
 use Rattle.smithy_declarations.specs.Value.{Value, MemberValues}
 use Rattle.smithy_schema.specs.Errors.{IsFault}
-use Rattle.smithy_schema.specs.Reading.{Cursor, in_structure, depth, Relations, Child, child_value, child_null, child_unknown, IsChild, Chain, Contains, IsLawful, StandsNot, CannotGoOn, passed_to}
+use Rattle.smithy_schema.specs.Reading.{Cursor, in_structure, depth, Relations, Child, child_value, child_null, child_unknown, IsChild, Chain, Contains, IsLawful, StandsNot, CannotGoOn, passed_to, Reader}
 use Rattle.smithy_shapes.specs.Lemmas.Options.{same_some}
-use Rattle.smithy_schema.specs.Consuming.{Reader, Call, Cleared, nothing_due, skipped, Along, ended, refused, stopped, went, Consumes, unopened, entered, by_member, ToMember}
+use Rattle.smithy_schema.specs.Consuming.{Call, Cleared, nothing_due, skipped, Along, ended, refused, stopped, went, Consumes, unopened, entered, by_member, ToMember}
 use Rattle.smithy_schema.proofs.ConsumingLemmas.{cleared_input, cleared_outer, same_error}
 use Rattle.smithy_schema.proofs.ReadStructures.{site_told}
 use Rattle.smithy_schema.proofs.ConsumedStructures.{TakesMembers, structure_not_sparse, contains_members, rest_input, rest_depth}

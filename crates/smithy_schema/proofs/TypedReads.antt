@@ -4,8 +4,8 @@ use Rattle.smithy_schema.specs.declared.error.SerdeError.{SerdeError}
 use Rattle.smithy_declarations.specs.Table.{IsStructure}
 use Rattle.smithy_declarations.specs.Value.{Value, no_member_values}
 use Rattle.smithy_shapes.specs.Site.{Site, kind_at}
-use Rattle.smithy_schema.specs.Reading.{Cursor, in_structure, IsLawful}
-use Rattle.smithy_schema.specs.Consuming.{Reader, Consumes, IsTaken, by_member}
+use Rattle.smithy_schema.specs.Reading.{Cursor, in_structure, IsLawful, Reader}
+use Rattle.smithy_schema.specs.Consuming.{Consumes, IsTaken, by_member}
 use Rattle.smithy_schema.specs.Fields.{TakesField, members_at, structure_with}
 use Rattle.smithy_schema.specs.Typed.{ReadsDueAs}
 use Rattle.smithy_schema.proofs.ReadFields.{members_read, members_refused}

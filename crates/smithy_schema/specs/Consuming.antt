@@ -6,18 +6,7 @@ use Rattle.smithy_schema.specs.declared.step.Step.{Step}
 use Rattle.smithy_schema.specs.declared.step.Step.TheVariants.{Member, Unknown, End}
 use Rattle.smithy_shapes.specs.Site.{Site, site_of, member_site}
 use Rattle.smithy_schema.specs.Errors.{IsFault, FindsNone, TellsType, IsNoAnswer, IsOfCursor}
-use Rattle.smithy_schema.specs.Reading.{Cursor, Relations, ContainerKind, depth, Passes, Enters, Steps, Leaves, CannotGoOn, OpensNot, ReachesDepth, IsBehind, failed_at, passed_to}
-
--- What the calls of a reader are told by: its relations with the limits kept and with the limits lifted, whether a refusal speaks
--- of the lifted ones, and how many containers may be open.
-pub record Reader : Type 1 where
-  pub wire : Relations
-  pub lifted : Relations
-  pub tells_without_limits : Type 0
-  pub max_depth : ℕ
-
-abbrev pub reader : Relations → Relations → Type 0 → ℕ → Reader
-reader w u strict max = record { wire = w; lifted = u; tells_without_limits = strict; max_depth = max }
+use Rattle.smithy_schema.specs.Reading.{Cursor, Relations, Reader, ContainerKind, depth, Passes, Enters, Steps, Leaves, CannotGoOn, OpensNot, ReachesDepth, IsBehind, failed_at, passed_to}
 
 -- ---- what a consumer promises
 

@@ -10,8 +10,8 @@ use Rattle.smithy_declarations.specs.Table.{ListShape, list_of}
 use Rattle.smithy_declarations.specs.Value.{ScalarValue, Value, scalar_value, list, values_of}
 use Rattle.smithy_shapes.specs.Site.{Site, kind_at, inner_site}
 use Rattle.smithy_schema.specs.Errors.{IsRefused, IsInvalid}
-use Rattle.smithy_schema.specs.Reading.{Cursor, ReadsScalar, Reads, StandsNot, in_list, failed_at}
-use Rattle.smithy_schema.specs.Consuming.{Reader, Consumes, by_element}
+use Rattle.smithy_schema.specs.Reading.{Cursor, ReadsScalar, Reads, StandsNot, in_list, failed_at, Reader}
+use Rattle.smithy_schema.specs.Consuming.{Consumes, by_element}
 
 -- a list of such scalars stands there, none of which may be null
 pub record IsListOf (s : Scalar) (site : Site) : Type 0 where
@@ -28,9 +28,9 @@ module _ {A : Type 0} (s : Scalar) (scalar : A → ScalarValue) where
 
   -- an element is read at its site, and comes behind those so far
   pub data ReadsElement (r : Reader) (site : Site) : List A → Cursor → Result (Unit {0}) SerdeError → List A → Cursor → Type 0 where
-    put : {xs : List A} {c d : Cursor} (x : A) → ReadsScalar {A = A} r.wire r.lifted r.tells_without_limits c d site s scalar (Ok x) → ReadsElement r site xs c (Ok tt) (xs ++ x ∷ []) d
-    refused : {xs : List A} {c d : Cursor} {e : SerdeError} → ReadsScalar {A = A} r.wire r.lifted r.tells_without_limits c d site s scalar (Err e) → ReadsElement r site xs c (Err e) xs d
-    no_room : {xs : List A} {c d : Cursor} (x : A) → ReadsScalar {A = A} r.wire r.lifted r.tells_without_limits c d site s scalar (Ok x) → ReadsElement r site xs c (Err NoMemory) xs d
+    put : {xs : List A} {c d : Cursor} (x : A) → ReadsScalar {A = A} r c d site s scalar (Ok x) → ReadsElement r site xs c (Ok tt) (xs ++ x ∷ []) d
+    refused : {xs : List A} {c d : Cursor} {e : SerdeError} → ReadsScalar {A = A} r c d site s scalar (Err e) → ReadsElement r site xs c (Err e) xs d
+    no_room : {xs : List A} {c d : Cursor} (x : A) → ReadsScalar {A = A} r c d site s scalar (Ok x) → ReadsElement r site xs c (Err NoMemory) xs d
 
   -- The list is entered, its elements are read in turn, and it is left; any error is that of such a call, or want of memory.
   pub data InTurn (r : Reader) (outer : Site) (c : Cursor) : Result (List A) SerdeError → Cursor → Type 0 where

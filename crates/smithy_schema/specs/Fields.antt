@@ -5,9 +5,8 @@ use Rattle.smithy_declarations.specs.declared.shape_type.Scalar.{Scalar}
 use Rattle.smithy_declarations.specs.Value.{ScalarValue, Value, MemberValues, no_member_values, member_value, put_member, structure}
 use Rattle.smithy_shapes.specs.Site.{Site, member_of}
 use Rattle.smithy_schema.specs.Errors.{IsFault}
-use Rattle.smithy_schema.specs.Reading.{Cursor, Reads, ReadsScalar, StandsNot}
+use Rattle.smithy_schema.specs.Reading.{Cursor, Reads, ReadsScalar, StandsNot, Reader}
 use Rattle.smithy_schema.specs.Writing.{Event, events}
-use Rattle.smithy_schema.specs.Consuming.{Reader}
 use Rattle.smithy_schema.specs.Typed.{MayAnswer}
 
 -- the members that are there, by their positions from n on
@@ -30,8 +29,8 @@ pub data TakesField {C : Type 0} (fields : C → List (Option Value)) (r : Reade
 
 -- a scalar is read into a field
 pub data FillsField {A : Type 0} (kind : Scalar) (scalar : A → ScalarValue) (r : Reader) (site : Site) : Option A → Cursor → Result (Unit {0}) SerdeError → Option A → Cursor → Type 0 where
-  filled : {old : Option A} {c d : Cursor} (x : A) → ReadsScalar {A = A} r.wire r.lifted r.tells_without_limits c d site kind scalar (Ok x) → FillsField kind scalar r site old c (Ok tt) (Some x) d
-  refused : {old : Option A} {c d : Cursor} {e : SerdeError} → ReadsScalar {A = A} r.wire r.lifted r.tells_without_limits c d site kind scalar (Err e) → FillsField kind scalar r site old c (Err e) old d
+  filled : {old : Option A} {c d : Cursor} (x : A) → ReadsScalar {A = A} r c d site kind scalar (Ok x) → FillsField kind scalar r site old c (Ok tt) (Some x) d
+  refused : {old : Option A} {c d : Cursor} {e : SerdeError} → ReadsScalar {A = A} r c d site kind scalar (Err e) → FillsField kind scalar r site old c (Err e) old d
 
 -- the calls that write the member at a position, where it is there
 abbrev pub field_events : Site → ℕ → Option Value → List Event

@@ -11,3 +11,4 @@ pub mod Writing
 pub mod Written
 pub mod Typed
 pub mod Spans
+pub mod Borrowing

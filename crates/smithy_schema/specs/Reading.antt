@@ -1,5 +1,5 @@
 -- What a reader tells, the relations of a wire, the laws that they obey, and what a call does.
-use Rattle.std.specs.Prelude.{◌≡◌, ◌⊎◌, ◌↔◌, ◌<◌, ◌≤◌, ◌&&◌, ℕ, suc, ◌+◌, length, drop, List, [], ◌∷◌, map, Option, Some, None, Bool, true, false, option_and_then, Result, Ok, Err, IsErrOf, OnErr, IfOk, IfErr}
+use Rattle.std.specs.Prelude.{◌≡◌, ◌⊎◌, ◌↔◌, ◌<◌, ◌≤◌, ◌&&◌, ℕ, suc, ◌+◌, length, drop, List, [], ◌∷◌, map, Option, Some, None, Bool, true, false, option_and_then, Result, IsErrOf, OnErr, IfOk, IfErr}
 use Rattle.smithy_types.specs.Document.{Document, whole_document}
 use Rattle.smithy_types.specs.DocumentView.{document_view}
 use Rattle.smithy_types.specs.declared.number.Number.{Number}
@@ -248,6 +248,20 @@ pub record IsBelow (w u : Relations) : Type 0 where
 
 -- ---- what a call does
 
+-- What the calls of a reader are told by, under some settings.
+pub record Reader : Type 1 where
+  -- the relations of the wire: what stands, opens, goes on and ends where in an input
+  pub wire : Relations
+  -- those with the limits lifted on depth, on the size of numbers and on what is carried
+  pub lifted : Relations
+  -- a refusal by `InvalidInput` or `TypeMismatch` says that nothing of the kind is there with the limits lifted either
+  pub tells_without_limits : Type 0
+  -- how many containers may be open at once
+  pub max_depth : ℕ
+
+abbrev pub reader : Relations → Relations → Type 0 → ℕ → Reader
+reader w u strict max = record { wire = w; lifted = u; tells_without_limits = strict; max_depth = max }
+
 -- the cursor after a refusal: it stays where it is, and has failed
 abbrev pub failed_at : Cursor → Cursor
 failed_at c = record c { failed = true }
@@ -308,32 +322,32 @@ EndsTooDeep w max old new t p =
     (w.limits_skips ≡ true)
     ⊎ ((q : Place) × (k : ℕ) × (depth new ≡ depth old + k) × IsInside t p k q × (depth new ≡ max) × IsContainer (kind_of t q))
 
--- What a read of one scalar kind says of its answer: by the relations w, and by u, those with the limits lifted.
-pub record ReadsScalar {A : Type 0} (w u : Relations) (tells_without_limits : Type 0) (old new : Cursor) (site : Site) (s : Scalar) (value : A → ScalarValue) (result : Result A SerdeError) : Type 0 where
+-- What a read of one scalar kind says of its answer.
+pub record ReadsScalar {A : Type 0} (r : Reader) (old new : Cursor) (site : Site) (s : Scalar) (value : A → ScalarValue) (result : Result A SerdeError) : Type 0 where
   pub conduct : Conducts old new result
   pub shallow : IsErrOf result TooDeep → ⊥
-  pub wide : IsErrOf result TooWide → Exceeds w old site.table (scalar_place s site.place.time)
-  pub uncarried : IsErrOf result NotCarried → Uncarried w old site.table (scalar_place s site.place.time)
+  pub wide : IsErrOf result TooWide → Exceeds r.wire old site.table (scalar_place s site.place.time)
+  pub uncarried : IsErrOf result NotCarried → Uncarried r.wire old site.table (scalar_place s site.place.time)
   pub undue : old.due ≡ false → IsNoAnswer result
-  pub told : old.due ≡ true → IfErr result (TellsType (w.mismatches old.input site.table (scalar_place s site.place.time) old.at))
-  pub ok : IfOk result (λ x. Reads w old new site.table (scalar_place s site.place.time) (scalar_value (value x)))
-  pub refused : IsRefused result → old.due ≡ true → StandsNot w old site.table (scalar_place s site.place.time)
-  pub none_without_limits : tells_without_limits → IsInvalid result → old.due ≡ true → StandsNot u old site.table (scalar_place s site.place.time)
+  pub told : old.due ≡ true → IfErr result (TellsType (r.wire.mismatches old.input site.table (scalar_place s site.place.time) old.at))
+  pub ok : IfOk result (λ x. Reads r.wire old new site.table (scalar_place s site.place.time) (scalar_value (value x)))
+  pub refused : IsRefused result → old.due ≡ true → StandsNot r.wire old site.table (scalar_place s site.place.time)
+  pub none_without_limits : r.tells_without_limits → IsInvalid result → old.due ≡ true → StandsNot r.lifted old site.table (scalar_place s site.place.time)
 
--- What a read of a document says of its answer: by the relations w, and by u, those with the limits lifted. It is too deep only
--- where the wire limits the depth of documents, and the bytes from there on reach the greatest one, as each part is counted.
-pub record ReadsDocument (w u : Relations) (tells_without_limits : Type 0) (max : ℕ) (old new : Cursor) (site : Site) (result : Result kept_document.Document SerdeError) : Type 0 where
+-- What a read of a document says of its answer. It is too deep only where the wire limits the depth of documents, and the bytes from
+-- there on reach the greatest one, as each part is counted.
+pub record ReadsDocument (r : Reader) (old new : Cursor) (site : Site) (result : Result kept_document.Document SerdeError) : Type 0 where
   pub conduct : Conducts old new result
-  pub deep : IsErrOf result TooDeep → ReachesDepth w max old
-  pub limited : IsErrOf result TooDeep → w.limits_skips ≡ true
+  pub deep : IsErrOf result TooDeep → ReachesDepth r.wire r.max_depth old
+  pub limited : IsErrOf result TooDeep → r.wire.limits_skips ≡ true
   pub narrow : IsErrOf result TooWide → ⊥
   pub no_mismatch : IsErrOf result TypeMismatch → ⊥
-  pub uncarried : IsErrOf result NotCarried → Uncarried w old site.table (document_place site.place.time)
+  pub uncarried : IsErrOf result NotCarried → Uncarried r.wire old site.table (document_place site.place.time)
   pub undue : old.due ≡ false → IsNoAnswer result
-  pub ok : IfOk result (λ x. Reads w old new site.table (document_place site.place.time) (document_value (whole_document (document_view x))))
-  pub variants : IfOk result (λ x. w.documents old.input (depth old) old.at (document_view x) new.at)
-  pub refused : IsRefused result → old.due ≡ true → StandsNot w old site.table (document_place site.place.time)
-  pub none_without_limits : tells_without_limits → IsInvalid result → old.due ≡ true → StandsNot u old site.table (document_place site.place.time)
+  pub ok : IfOk result (λ x. Reads r.wire old new site.table (document_place site.place.time) (document_value (whole_document (document_view x))))
+  pub variants : IfOk result (λ x. r.wire.documents old.input (depth old) old.at (document_view x) new.at)
+  pub refused : IsRefused result → old.due ≡ true → StandsNot r.wire old site.table (document_place site.place.time)
+  pub none_without_limits : r.tells_without_limits → IsInvalid result → old.due ≡ true → StandsNot r.lifted old site.table (document_place site.place.time)
 
 -- A read of a big number answers `TooWide` wherever one stands that leaves its limits, want of memory aside.
 abbrev pub AnswersWide : {A : Type 0} → Relations → Cursor → Site → Scalar → Result A SerdeError → Type 0

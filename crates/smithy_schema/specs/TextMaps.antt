@@ -10,8 +10,8 @@ use Rattle.smithy_declarations.specs.Table.{MapShape, map_of}
 use Rattle.smithy_declarations.specs.Value.{Value, scalar_value, text, map, MapEntries, no_map_entries, map_entry, put_entry}
 use Rattle.smithy_shapes.specs.Site.{Site, kind_at, inner_site}
 use Rattle.smithy_schema.specs.Errors.{IsRefused, IsInvalid}
-use Rattle.smithy_schema.specs.Reading.{Cursor, ReadsScalar, Reads, StandsNot, in_map}
-use Rattle.smithy_schema.specs.Consuming.{Reader, Consumes, by_key}
+use Rattle.smithy_schema.specs.Reading.{Cursor, ReadsScalar, Reads, StandsNot, in_map, Reader}
+use Rattle.smithy_schema.specs.Consuming.{Consumes, by_key}
 
 -- a map of texts stands there, none of which may be null
 pub record IsMapOfTexts (site : Site) : Type 0 where
@@ -31,10 +31,10 @@ text_entries (e ∷ es) = map_entry (string_bytes e.0) (text_value e.1) (text_en
 
 -- a text is read at the site of the values, and stands at its key in place of any before
 pub data ReadsEntry (r : Reader) (site : Site) (key : List ℕ) : MapEntries → Cursor → Result (Unit {0}) SerdeError → MapEntries → Cursor → Type 0 where
-  put : {es : MapEntries} {c d : Cursor} (x : String Global) → ReadsScalar {A = String Global} r.wire r.lifted r.tells_without_limits c d site scalars.String (λ s. text (string_bytes s)) (Ok x)
+  put : {es : MapEntries} {c d : Cursor} (x : String Global) → ReadsScalar {A = String Global} r c d site scalars.String (λ s. text (string_bytes s)) (Ok x)
       → ReadsEntry r site key es c (Ok tt) (put_entry key (text_value x) es) d
-  refused : {es : MapEntries} {c d : Cursor} {e : SerdeError} → ReadsScalar {A = String Global} r.wire r.lifted r.tells_without_limits c d site scalars.String (λ s. text (string_bytes s)) (Err e) → ReadsEntry r site key es c (Err e) es d
-  no_room : {es fs : MapEntries} {c d : Cursor} (x : String Global) → ReadsScalar {A = String Global} r.wire r.lifted r.tells_without_limits c d site scalars.String (λ s. text (string_bytes s)) (Ok x)
+  refused : {es : MapEntries} {c d : Cursor} {e : SerdeError} → ReadsScalar {A = String Global} r c d site scalars.String (λ s. text (string_bytes s)) (Err e) → ReadsEntry r site key es c (Err e) es d
+  no_room : {es fs : MapEntries} {c d : Cursor} (x : String Global) → ReadsScalar {A = String Global} r c d site scalars.String (λ s. text (string_bytes s)) (Ok x)
       → ReadsEntry r site key es c (Err NoMemory) fs d
 
 -- the map is entered, its entries are read in turn, and it is left; any error is that of such a call

@@ -17,10 +17,10 @@ pub trait BorrowDeserializer<'a>: ShapeDeserializer {
     /// Reads a text.
     fn read_text(&mut self, schema: &Schema<'_>) -> Result<CowStr<'a, Global>, SerdeError>
         ensures same { Self.settings self.new ≡ Self.settings self.old }
-        ensures read { ReadsScalar (Self.wire (Self.settings self.old)) (Self.lifted (Self.settings self.old)) (Self.tells_without_limits (Self.settings self.old)) (Self.state self.old) (Self.state self.new) (site_of schema.now) scalars.String (λ s. text (cow_str_bytes s)) result };
+        ensures read { ReadsScalar (Self.reading (Self.settings self.old)) (Self.state self.old) (Self.state self.new) (site_of schema.now) scalars.String (λ s. text (cow_str_bytes s)) result };
 
     /// Reads bytes.
     fn read_bytes(&mut self, schema: &Schema<'_>) -> Result<CowSlice<'a, u8, Global>, SerdeError>
         ensures same { Self.settings self.new ≡ Self.settings self.old }
-        ensures read { ReadsScalar (Self.wire (Self.settings self.old)) (Self.lifted (Self.settings self.old)) (Self.tells_without_limits (Self.settings self.old)) (Self.state self.old) (Self.state self.new) (site_of schema.now) scalars.Blob (λ b. bytes (cow_slice_items b)) result };
+        ensures read { ReadsScalar (Self.reading (Self.settings self.old)) (Self.state self.old) (Self.state self.new) (site_of schema.now) scalars.Blob (λ b. bytes (cow_slice_items b)) result };
 }

@@ -1,7 +1,7 @@
 //! What takes the entries of a container as a reader comes to them.
-ghost use Rattle.std.specs.Prelude.{◌≡◌, Bool, true, false, Option, OnOk, option_map, string_bytes};
+ghost use Rattle.std.specs.Prelude.{◌≡◌, true, false, Option, OnOk, option_map, string_bytes};
 ghost use Rattle.smithy_shapes.specs.Site.{Site, site_of};
-ghost use Rattle.smithy_schema.specs.Consuming.{reader, MemberCall, ElementCall, EntryCall, Rests, IsMemberOf};
+ghost use Rattle.smithy_schema.specs.Consuming.{MemberCall, ElementCall, EntryCall, Rests, IsMemberOf};
 
 use crate::error::SerdeError;
 use crate::read::ShapeDeserializer;
@@ -28,7 +28,7 @@ pub trait StructConsumer {
         requires sound { (D.state source.old).failed ≡ false }
         requires allowed { (outer : Site) × can_take self.old outer × IsMemberOf outer (option_map (λ s. site_of s.now) member) }
         ensures same { D.settings source.new ≡ D.settings source.old }
-        ensures called { call (reader (D.wire (D.settings source.old)) (D.lifted (D.settings source.old)) (D.tells_without_limits (D.settings source.old)) (D.max_depth (D.settings source.old))) (option_map (λ s. site_of s.now) member.entry) self.old (D.state source.old) result self.new (D.state source.new) }
+        ensures called { call (D.reading (D.settings source.old)) (option_map (λ s. site_of s.now) member.entry) self.old (D.state source.old) result self.new (D.state source.new) }
         ensures rests { OnOk result (Rests (D.state source.old) (D.state source.new)) }
         ensures allowed { OnOk result ((outer : Site) → can_take self.old outer → can_take self.new outer) };
 }
@@ -44,7 +44,7 @@ pub trait ListConsumer {
         requires due { (D.state source.old).due ≡ true }
         requires sound { (D.state source.old).failed ≡ false }
         ensures same { D.settings source.new ≡ D.settings source.old }
-        ensures called { call (reader (D.wire (D.settings source.old)) (D.lifted (D.settings source.old)) (D.tells_without_limits (D.settings source.old)) (D.max_depth (D.settings source.old))) self.old (D.state source.old) result self.new (D.state source.new) }
+        ensures called { call (D.reading (D.settings source.old)) self.old (D.state source.old) result self.new (D.state source.new) }
         ensures rests { OnOk result (Rests (D.state source.old) (D.state source.new)) };
 }
 
@@ -58,6 +58,6 @@ pub trait MapConsumer {
         requires due { (D.state source.old).due ≡ true }
         requires sound { (D.state source.old).failed ≡ false }
         ensures same { D.settings source.new ≡ D.settings source.old }
-        ensures called { call (reader (D.wire (D.settings source.old)) (D.lifted (D.settings source.old)) (D.tells_without_limits (D.settings source.old)) (D.max_depth (D.settings source.old))) (string_bytes key) self.old (D.state source.old) result self.new (D.state source.new) }
+        ensures called { call (D.reading (D.settings source.old)) (string_bytes key) self.old (D.state source.old) result self.new (D.state source.new) }
         ensures rests { OnOk result (Rests (D.state source.old) (D.state source.new)) };
 }

@@ -6,7 +6,6 @@ ghost use Rattle.smithy_declarations.specs.Table.{IsList};
 ghost use Rattle.smithy_declarations.specs.Value.{ScalarValue, text, bytes, whole, instant};
 ghost use Rattle.smithy_shapes.specs.Site.{site_of, kind_at};
 ghost use Rattle.smithy_schema.specs.Reading.{ReadsScalar};
-ghost use Rattle.smithy_schema.specs.Consuming.{reader};
 ghost use Rattle.smithy_schema.specs.Elements.{ReadsElement, ReadsList, items_of};
 
 use crate::consume::ListConsumer;
@@ -31,7 +30,7 @@ pub trait ReadScalar {
     where
         Self: Sized,
         ensures same { D.settings source.new ≡ D.settings source.old }
-        ensures read { ReadsScalar (D.wire (D.settings source.old)) (D.lifted (D.settings source.old)) (D.tells_without_limits (D.settings source.old)) (D.state source.old) (D.state source.new) (site_of schema.now) kind scalar result };
+        ensures read { ReadsScalar (D.reading (D.settings source.old)) (D.state source.old) (D.state source.new) (site_of schema.now) kind scalar result };
 }
 
 impl ReadScalar for String {
@@ -137,7 +136,7 @@ pub(crate) fn read_elements<T: ReadScalar + Drop, D: ShapeDeserializer>(
 ) -> Result<Vec<T>, SerdeError>
     requires place { IsList (kind_at (site_of schema.now)) }
     ensures same { D.settings source.new ≡ D.settings source.old }
-    ensures read { let r = reader (D.wire (D.settings source.old)) (D.lifted (D.settings source.old)) (D.tells_without_limits (D.settings source.old)) (D.max_depth (D.settings source.old)) in ReadsList T.kind T.scalar r (site_of schema.now) (D.state source.old) (items_of result) (D.state source.new) }
+    ensures read { ReadsList T.kind T.scalar (D.reading (D.settings source.old)) (site_of schema.now) (D.state source.old) (items_of result) (D.state source.new) }
 {
     let Some(element) = schema.member() else {
         unreachable!()

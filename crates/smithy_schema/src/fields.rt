@@ -2,7 +2,7 @@
 ghost use Rattle.std.specs.Prelude.{◌≡◌, List, Option, option_map, false, OnOk, string_bytes};
 ghost use Rattle.smithy_declarations.specs.Value.{Value, scalar_value, list, values_of};
 ghost use Rattle.smithy_shapes.specs.Site.{site_of, member_of, element_of};
-ghost use Rattle.smithy_schema.specs.Consuming.{reader, IsTaken};
+ghost use Rattle.smithy_schema.specs.Consuming.{IsTaken};
 ghost use Rattle.smithy_schema.specs.Writing.{open_structure, open_list, events, element_events, member_events};
 ghost use Rattle.smithy_schema.specs.Written.{Runs, IsInside, AddsInside};
 ghost use Rattle.smithy_schema.specs.Fields.{FillsField, field_events, members_at, structure_with, structures_with};
@@ -22,7 +22,7 @@ pub fn read_field<T: ReadScalar + Drop, D: ShapeDeserializer>(
     field: &mut Option<T>,
 ) -> Result<(), SerdeError>
     ensures same { D.settings source.new ≡ D.settings source.old }
-    ensures fills { FillsField T.kind T.scalar (reader (D.wire (D.settings source.old)) (D.lifted (D.settings source.old)) (D.tells_without_limits (D.settings source.old)) (D.max_depth (D.settings source.old))) (site_of member.now) field.old (D.state source.old) result field.new (D.state source.new) }
+    ensures fills { FillsField T.kind T.scalar (D.reading (D.settings source.old)) (site_of member.now) field.old (D.state source.old) result field.new (D.state source.new) }
     ensures takes { OnOk result (IsTaken (D.state source.old) (D.state source.new)) }
 {
     let value = T::read_from(source, member)?;

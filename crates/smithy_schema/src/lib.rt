@@ -25,7 +25,7 @@ pub use error::SerdeError;
 pub use fields::{
     WriteFields, WriteMember, Written, WrittenList, read_field, write_field, write_structure,
 };
-pub use pieces::{BytesView, PieceDeserializer, TextView};
+pub use pieces::{BytesPiece, PieceDeserializer, TextPiece};
 pub use read::ShapeDeserializer;
 pub use sizes::capped_container_size;
 pub use smithy_shapes::{

@@ -1,5 +1,5 @@
 //! Reading a value as a schema directs.
-ghost use Rattle.std.specs.Prelude.{◌≡◌, ◌≤◌, ℕ, length, true, false, IfOk, OnOk, IsErrOf, IsErr, string_bytes, FitsSigned, OnErr};
+ghost use Rattle.std.specs.Prelude.{◌≡◌, ◌≤◌, length, true, false, IfOk, OnOk, IsErrOf, IsErr, string_bytes, FitsSigned};
 ghost use Rattle.std.specs.Int.{w128};
 ghost use Rattle.smithy_texts.specs.Numeral.{number};
 ghost use Rattle.smithy_texts.specs.Decimal.{mantissa, net_exponent};
@@ -9,9 +9,9 @@ ghost use Rattle.smithy_declarations.specs.Value.{boolean, whole, text, bytes, d
 ghost use Rattle.smithy_shapes.specs.Site.{site_of, kind_at};
 ghost use Rattle.smithy_schema.specs.Containers.{Opens, GoesOnInStructure, GoesOnInList, GoesOnInMap};
 ghost use Rattle.smithy_schema.specs.Passing.{ReadsNull, SkipsValue};
-ghost use Rattle.smithy_schema.specs.Reading.{ReadsScalar, ReadsDocument, AnswersWide, AnswersUncarried, Cursor, Relations, IsLawful, StandsFit, CountsOpeners, IsBelow, null_is_due, failed_at, in_structure, in_list, in_map};
+ghost use Rattle.smithy_schema.specs.Reading.{ReadsScalar, ReadsDocument, AnswersWide, AnswersUncarried, Cursor, Reader, IsLawful, StandsFit, CountsOpeners, IsBelow, null_is_due, failed_at, in_structure, in_list, in_map};
 ghost use Rattle.smithy_schema.specs.declared.error.SerdeError.TheVariants.{NoMemory};
-ghost use Rattle.smithy_schema.specs.Consuming.{reader, ReadsEntries, by_member, by_element, by_key};
+ghost use Rattle.smithy_schema.specs.Consuming.{ReadsEntries, by_member, by_element, by_key};
 ghost use Rattle.smithy_schema.specs.Sizes.{Sizes, TellsSize};
 ghost use Rattle.smithy_schema.specs.Elements.{ReadsList, items_of};
 ghost use Rattle.smithy_schema.specs.TextMaps.{ReadsTexts, entries_of};
@@ -38,17 +38,8 @@ pub trait ShapeDeserializer {
 
     ghost state: { Self → Cursor };
 
-    // How many containers may be open at once.
-    ghost max_depth: { Settings → ℕ };
-
-    // The relations of the wire under the settings: what stands, opens, goes on and ends where in an input.
-    ghost wire: { Settings → Relations };
-
-    // The relations of the wire with the limits lifted on depth, on the size of numbers and on what is carried.
-    ghost lifted: { Settings → Relations };
-
-    // Under these settings a refusal by `InvalidInput` or `TypeMismatch` says that nothing of the kind is there with the limits lifted either.
-    ghost tells_without_limits: { Settings → Type 0 };
+    // What the calls are told by under the settings: the relations of the wire, with its limits and without them.
+    ghost reading: { Settings → Reader };
 
     // What the wire tells of the sizes of containers before they are read.
     ghost sizes: { Settings → Sizes };
@@ -70,7 +61,7 @@ pub trait ShapeDeserializer {
     fn open_struct(&mut self, schema: &Schema<'_>) -> Result<(), SerdeError>
         requires place { HasMembers (kind_at (site_of schema.now)) }
         ensures same { settings self.new ≡ settings self.old }
-        ensures opens { Opens (wire (settings self.old)) (lifted (settings self.old)) (tells_without_limits (settings self.old)) (max_depth (settings self.old)) (state self.old) (state self.new) (site_of schema.now) in_structure result };
+        ensures opens { Opens (reading (settings self.old)) (state self.old) (state self.new) (site_of schema.now) in_structure result };
 
     /// Goes on in the structure or the union, which is the one of this schema: to an entry whose value is due then, or
     /// to the end. Entries with a null are passed over, but for documents where the wire has a null document, and each
@@ -79,47 +70,47 @@ pub trait ShapeDeserializer {
         requires within { (state self.old).inner.within ≡ in_structure }
         requires place { HasMembers (kind_at (site_of schema.now)) }
         ensures same { settings self.new ≡ settings self.old }
-        ensures goes_on { GoesOnInStructure (wire (settings self.old)) (lifted (settings self.old)) (tells_without_limits (settings self.old)) (max_depth (settings self.old)) (state self.old) (state self.new) (site_of schema.now) result };
+        ensures goes_on { GoesOnInStructure (reading (settings self.old)) (state self.old) (state self.new) (site_of schema.now) result };
 
     /// Enters the list that is due. Where a list begins here, it is `TooDeep` exactly at the greatest depth.
     fn open_list(&mut self, schema: &Schema<'_>) -> Result<(), SerdeError>
         requires place { IsList (kind_at (site_of schema.now)) }
         ensures same { settings self.new ≡ settings self.old }
-        ensures opens { Opens (wire (settings self.old)) (lifted (settings self.old)) (tells_without_limits (settings self.old)) (max_depth (settings self.old)) (state self.old) (state self.new) (site_of schema.now) in_list result };
+        ensures opens { Opens (reading (settings self.old)) (state self.old) (state self.new) (site_of schema.now) in_list result };
 
     /// Goes on in the list: whether another element is due, or the list has ended. An element that was
     /// left unread is refused. It takes no memory.
     fn next_element(&mut self) -> Result<bool, SerdeError>
         requires within { (state self.old).inner.within ≡ in_list }
         ensures same { settings self.new ≡ settings self.old }
-        ensures goes_on { GoesOnInList (wire (settings self.old)) (lifted (settings self.old)) (tells_without_limits (settings self.old)) (state self.old) (state self.new) result };
+        ensures goes_on { GoesOnInList (reading (settings self.old)) (state self.old) (state self.new) result };
 
     /// Enters the map that is due. Where a map begins here, it is `TooDeep` exactly at the greatest depth.
     fn open_map(&mut self, schema: &Schema<'_>) -> Result<(), SerdeError>
         requires place { IsMap (kind_at (site_of schema.now)) }
         ensures same { settings self.new ≡ settings self.old }
-        ensures opens { Opens (wire (settings self.old)) (lifted (settings self.old)) (tells_without_limits (settings self.old)) (max_depth (settings self.old)) (state self.old) (state self.new) (site_of schema.now) in_map result };
+        ensures opens { Opens (reading (settings self.old)) (state self.old) (state self.new) (site_of schema.now) in_map result };
 
     /// Goes on in the map: the key of the next entry, whose value is due then, or none where the map has ended. Keys
     /// come in the order of the input, equal ones each time. A value that was left unread is refused.
     fn next_key(&mut self) -> Result<Option<String>, SerdeError>
         requires within { (state self.old).inner.within ≡ in_map }
         ensures same { settings self.new ≡ settings self.old }
-        ensures goes_on { GoesOnInMap (wire (settings self.old)) (lifted (settings self.old)) (tells_without_limits (settings self.old)) string_bytes (state self.old) (state self.new) result };
+        ensures goes_on { GoesOnInMap (reading (settings self.old)) string_bytes (state self.old) (state self.new) result };
 
     /// Whether the value that is due is a null.
     fn is_null(&self) -> bool
-        ensures { result ≡ null_is_due (wire (settings self.now)) (state self.now) };
+        ensures { result ≡ null_is_due (reading (settings self.now)).wire (state self.now) };
 
     /// Reads the null that is due. Where none is due, a wire may do nothing or refuse. It takes no memory.
     fn read_null(&mut self) -> Result<(), SerdeError>
         ensures same { settings self.new ≡ settings self.old }
-        ensures reads { ReadsNull (wire (settings self.old)) (lifted (settings self.old)) (tells_without_limits (settings self.old)) (state self.old) (state self.new) result };
+        ensures reads { ReadsNull (reading (settings self.old)) (state self.old) (state self.new) result };
 
     /// Skips the value that is due, whatever it is.
     fn skip_value(&mut self) -> Result<(), SerdeError>
         ensures same { settings self.new ≡ settings self.old }
-        ensures skips { SkipsValue (wire (settings self.old)) (lifted (settings self.old)) (tells_without_limits (settings self.old)) (max_depth (settings self.old)) (state self.old) (state self.new) result };
+        ensures skips { SkipsValue (reading (settings self.old)) (state self.old) (state self.new) result };
 
     /// How many elements or entries the list, map, structure or union has that is due, as far as the wire tells it before
     /// they are read: what is told needn't be true. The reader stays where it is, after want of memory too.
@@ -131,48 +122,48 @@ pub trait ShapeDeserializer {
     /// Reads false or true. It takes no memory.
     fn read_boolean(&mut self, schema: &Schema<'_>) -> Result<bool, SerdeError>
         ensures same { settings self.new ≡ settings self.old }
-        ensures read { ReadsScalar (wire (settings self.old)) (lifted (settings self.old)) (tells_without_limits (settings self.old)) (state self.old) (state self.new) (site_of schema.now) scalars.Boolean boolean result }
+        ensures read { ReadsScalar (reading (settings self.old)) (state self.old) (state self.new) (site_of schema.now) scalars.Boolean boolean result }
         ensures memory { IsErrOf result NoMemory → ⊥ };
 
     /// Reads a whole number from -2^7 to 2^7-1. It takes no memory.
     fn read_byte(&mut self, schema: &Schema<'_>) -> Result<i8, SerdeError>
         ensures same { settings self.new ≡ settings self.old }
-        ensures read { ReadsScalar (wire (settings self.old)) (lifted (settings self.old)) (tells_without_limits (settings self.old)) (state self.old) (state self.new) (site_of schema.now) scalars.Byte whole result }
+        ensures read { ReadsScalar (reading (settings self.old)) (state self.old) (state self.new) (site_of schema.now) scalars.Byte whole result }
         ensures memory { IsErrOf result NoMemory → ⊥ };
 
     /// Reads a whole number from -2^15 to 2^15-1. It takes no memory.
     fn read_short(&mut self, schema: &Schema<'_>) -> Result<i16, SerdeError>
         ensures same { settings self.new ≡ settings self.old }
-        ensures read { ReadsScalar (wire (settings self.old)) (lifted (settings self.old)) (tells_without_limits (settings self.old)) (state self.old) (state self.new) (site_of schema.now) scalars.Short whole result }
+        ensures read { ReadsScalar (reading (settings self.old)) (state self.old) (state self.new) (site_of schema.now) scalars.Short whole result }
         ensures memory { IsErrOf result NoMemory → ⊥ };
 
     /// Reads a whole number from -2^31 to 2^31-1. It takes no memory.
     fn read_integer(&mut self, schema: &Schema<'_>) -> Result<i32, SerdeError>
         ensures same { settings self.new ≡ settings self.old }
-        ensures read { ReadsScalar (wire (settings self.old)) (lifted (settings self.old)) (tells_without_limits (settings self.old)) (state self.old) (state self.new) (site_of schema.now) scalars.Integer whole result }
+        ensures read { ReadsScalar (reading (settings self.old)) (state self.old) (state self.new) (site_of schema.now) scalars.Integer whole result }
         ensures memory { IsErrOf result NoMemory → ⊥ };
 
     /// Reads a whole number from -2^63 to 2^63-1. It takes no memory.
     fn read_long(&mut self, schema: &Schema<'_>) -> Result<i64, SerdeError>
         ensures same { settings self.new ≡ settings self.old }
-        ensures read { ReadsScalar (wire (settings self.old)) (lifted (settings self.old)) (tells_without_limits (settings self.old)) (state self.old) (state self.new) (site_of schema.now) scalars.Long whole result }
+        ensures read { ReadsScalar (reading (settings self.old)) (state self.old) (state self.new) (site_of schema.now) scalars.Long whole result }
         ensures memory { IsErrOf result NoMemory → ⊥ };
 
     /// Reads a text.
     fn read_string(&mut self, schema: &Schema<'_>) -> Result<String, SerdeError>
         ensures same { settings self.new ≡ settings self.old }
-        ensures read { ReadsScalar (wire (settings self.old)) (lifted (settings self.old)) (tells_without_limits (settings self.old)) (state self.old) (state self.new) (site_of schema.now) scalars.String (λ s. text (string_bytes s)) result };
+        ensures read { ReadsScalar (reading (settings self.old)) (state self.old) (state self.new) (site_of schema.now) scalars.String (λ s. text (string_bytes s)) result };
 
     /// Reads bytes.
     fn read_blob(&mut self, schema: &Schema<'_>) -> Result<Blob, SerdeError>
         ensures same { settings self.new ≡ settings self.old }
-        ensures read { ReadsScalar (wire (settings self.old)) (lifted (settings self.old)) (tells_without_limits (settings self.old)) (state self.old) (state self.new) (site_of schema.now) scalars.Blob bytes result };
+        ensures read { ReadsScalar (reading (settings self.old)) (state self.old) (state self.new) (site_of schema.now) scalars.Blob bytes result };
 
     /// Reads a whole number of 128 bits. `TooWide` comes exactly where a whole number stands that leaves these bits.
     fn read_big_integer(&mut self, schema: &Schema<'_>) -> Result<BigInteger, SerdeError>
         ensures same { settings self.new ≡ settings self.old }
-        ensures read { ReadsScalar (wire (settings self.old)) (lifted (settings self.old)) (tells_without_limits (settings self.old)) (state self.old) (state self.new) (site_of schema.now) scalars.BigInteger (λ n. whole (number n)) result }
-        ensures wide { AnswersWide (wire (settings self.old)) (state self.old) (site_of schema.now) scalars.BigInteger result }
+        ensures read { ReadsScalar (reading (settings self.old)) (state self.old) (state self.new) (site_of schema.now) scalars.BigInteger (λ n. whole (number n)) result }
+        ensures wide { AnswersWide (reading (settings self.old)).wire (state self.old) (site_of schema.now) scalars.BigInteger result }
         ensures fits { IfOk result (λ n. FitsSigned w128 (number n)) };
 
     /// Reads a decimal number with a mantissa of 128 bits. `TooWide` comes exactly where a decimal number stands whose
@@ -180,22 +171,22 @@ pub trait ShapeDeserializer {
     /// leaves the range from -(2^63-1) to 2^63-1.
     fn read_big_decimal(&mut self, schema: &Schema<'_>) -> Result<BigDecimal, SerdeError>
         ensures same { settings self.new ≡ settings self.old }
-        ensures read { ReadsScalar (wire (settings self.old)) (lifted (settings self.old)) (tells_without_limits (settings self.old)) (state self.old) (state self.new) (site_of schema.now) scalars.BigDecimal (λ n. decimal (mantissa n) (net_exponent n)) result }
-        ensures wide { AnswersWide (wire (settings self.old)) (state self.old) (site_of schema.now) scalars.BigDecimal result }
+        ensures read { ReadsScalar (reading (settings self.old)) (state self.old) (state self.new) (site_of schema.now) scalars.BigDecimal (λ n. decimal (mantissa n) (net_exponent n)) result }
+        ensures wide { AnswersWide (reading (settings self.old)).wire (state self.old) (site_of schema.now) scalars.BigDecimal result }
         ensures fits { IfOk result (λ n. FitsSigned w128 (mantissa n)) };
 
     /// Reads an instant, in the form of its place where the wire has forms. `NotCarried` comes exactly where a number stands
     /// that the wire's instants don't carry.
     fn read_timestamp(&mut self, schema: &Schema<'_>) -> Result<DateTime, SerdeError>
         ensures same { settings self.new ≡ settings self.old }
-        ensures read { ReadsScalar (wire (settings self.old)) (lifted (settings self.old)) (tells_without_limits (settings self.old)) (state self.old) (state self.new) (site_of schema.now) scalars.Timestamp instant result }
-        ensures uncarried { AnswersUncarried (wire (settings self.old)) (state self.old) (site_of schema.now) scalars.Timestamp result };
+        ensures read { ReadsScalar (reading (settings self.old)) (state self.old) (state self.new) (site_of schema.now) scalars.Timestamp instant result }
+        ensures uncarried { AnswersUncarried (reading (settings self.old)).wire (state self.old) (site_of schema.now) scalars.Timestamp result };
 
     /// Reads a document, in which each value counts as depth, scalars too. `NotCarried` comes only where a number stands in it
     /// that a document doesn't carry, or where the wire carries no documents.
     fn read_document(&mut self, schema: &Schema<'_>) -> Result<Document, SerdeError>
         ensures same { settings self.new ≡ settings self.old }
-        ensures read { ReadsDocument (wire (settings self.old)) (lifted (settings self.old)) (tells_without_limits (settings self.old)) (max_depth (settings self.old)) (state self.old) (state self.new) (site_of schema.now) result };
+        ensures read { ReadsDocument (reading (settings self.old)) (state self.old) (state self.new) (site_of schema.now) result };
 
     /// Reads the structure or the union that is due: the consumer is called for each entry, in order.
     final fn read_struct<C: StructConsumer>(
@@ -208,7 +199,7 @@ pub trait ShapeDeserializer {
         requires place { HasMembers (kind_at (site_of schema.now)) }
         requires allowed { C.can_take consumer.old (site_of schema.now) }
         ensures same { settings self.new ≡ settings self.old }
-        ensures reads { let r = reader (wire (settings self.old)) (lifted (settings self.old)) (tells_without_limits (settings self.old)) (max_depth (settings self.old)) in ReadsEntries r (site_of schema.now) in_structure (by_member r (site_of schema.now)) (C.call r) consumer.old (state self.old) result consumer.new (state self.new) }
+        ensures reads { let r = reading (settings self.old) in ReadsEntries r (site_of schema.now) in_structure (by_member r (site_of schema.now)) (C.call r) consumer.old (state self.old) result consumer.new (state self.new) }
         ensures allowed { OnOk result (C.can_take consumer.new (site_of schema.now)) }
     {
         self.open_struct(schema)?;
@@ -234,7 +225,7 @@ pub trait ShapeDeserializer {
         Self: Sized,
         requires place { IsList (kind_at (site_of schema.now)) }
         ensures same { settings self.new ≡ settings self.old }
-        ensures reads { let r = reader (wire (settings self.old)) (lifted (settings self.old)) (tells_without_limits (settings self.old)) (max_depth (settings self.old)) in ReadsEntries r (site_of schema.now) in_list (by_element r (site_of schema.now)) (λ element. C.call r) consumer.old (state self.old) result consumer.new (state self.new) }
+        ensures reads { let r = reading (settings self.old) in ReadsEntries r (site_of schema.now) in_list (by_element r (site_of schema.now)) (λ element. C.call r) consumer.old (state self.old) result consumer.new (state self.new) }
     {
         self.open_list(schema)?;
         while self.next_element()? {
@@ -256,7 +247,7 @@ pub trait ShapeDeserializer {
         Self: Sized,
         requires place { IsMap (kind_at (site_of schema.now)) }
         ensures same { settings self.new ≡ settings self.old }
-        ensures reads { let r = reader (wire (settings self.old)) (lifted (settings self.old)) (tells_without_limits (settings self.old)) (max_depth (settings self.old)) in ReadsEntries r (site_of schema.now) in_map (by_key r (site_of schema.now)) (C.call r) consumer.old (state self.old) result consumer.new (state self.new) }
+        ensures reads { let r = reading (settings self.old) in ReadsEntries r (site_of schema.now) in_map (by_key r (site_of schema.now)) (C.call r) consumer.old (state self.old) result consumer.new (state self.new) }
     {
         self.open_map(schema)?;
         while let Some(key) = self.next_key()? {
@@ -274,7 +265,7 @@ pub trait ShapeDeserializer {
         Self: Sized,
         requires place { IsList (kind_at (site_of schema.now)) }
         ensures same { settings self.new ≡ settings self.old }
-        ensures read { let r = reader (wire (settings self.old)) (lifted (settings self.old)) (tells_without_limits (settings self.old)) (max_depth (settings self.old)) in ReadsList scalars.String (λ s. text (string_bytes s)) r (site_of schema.now) (state self.old) (items_of result) (state self.new) }
+        ensures read { ReadsList scalars.String (λ s. text (string_bytes s)) (reading (settings self.old)) (site_of schema.now) (state self.old) (items_of result) (state self.new) }
     {
         read_elements(self, schema)
     }
@@ -285,7 +276,7 @@ pub trait ShapeDeserializer {
         Self: Sized,
         requires place { IsList (kind_at (site_of schema.now)) }
         ensures same { settings self.new ≡ settings self.old }
-        ensures read { let r = reader (wire (settings self.old)) (lifted (settings self.old)) (tells_without_limits (settings self.old)) (max_depth (settings self.old)) in ReadsList scalars.Blob bytes r (site_of schema.now) (state self.old) (items_of result) (state self.new) }
+        ensures read { ReadsList scalars.Blob bytes (reading (settings self.old)) (site_of schema.now) (state self.old) (items_of result) (state self.new) }
     {
         read_elements(self, schema)
     }
@@ -296,7 +287,7 @@ pub trait ShapeDeserializer {
         Self: Sized,
         requires place { IsList (kind_at (site_of schema.now)) }
         ensures same { settings self.new ≡ settings self.old }
-        ensures read { let r = reader (wire (settings self.old)) (lifted (settings self.old)) (tells_without_limits (settings self.old)) (max_depth (settings self.old)) in ReadsList scalars.Integer whole r (site_of schema.now) (state self.old) (items_of result) (state self.new) }
+        ensures read { ReadsList scalars.Integer whole (reading (settings self.old)) (site_of schema.now) (state self.old) (items_of result) (state self.new) }
     {
         read_elements(self, schema)
     }
@@ -307,7 +298,7 @@ pub trait ShapeDeserializer {
         Self: Sized,
         requires place { IsList (kind_at (site_of schema.now)) }
         ensures same { settings self.new ≡ settings self.old }
-        ensures read { let r = reader (wire (settings self.old)) (lifted (settings self.old)) (tells_without_limits (settings self.old)) (max_depth (settings self.old)) in ReadsList scalars.Long whole r (site_of schema.now) (state self.old) (items_of result) (state self.new) }
+        ensures read { ReadsList scalars.Long whole (reading (settings self.old)) (site_of schema.now) (state self.old) (items_of result) (state self.new) }
     {
         read_elements(self, schema)
     }
@@ -321,20 +312,20 @@ pub trait ShapeDeserializer {
         Self: Sized,
         requires place { IsMap (kind_at (site_of schema.now)) }
         ensures same { settings self.new ≡ settings self.old }
-        ensures read { let r = reader (wire (settings self.old)) (lifted (settings self.old)) (tells_without_limits (settings self.old)) (max_depth (settings self.old)) in ReadsTexts r (site_of schema.now) (state self.old) (entries_of result) (state self.new) }
+        ensures read { ReadsTexts (reading (settings self.old)) (site_of schema.now) (state self.old) (entries_of result) (state self.new) }
     {
         read_texts(self, schema)
     }
 
     // Each wire obeys the laws of reading, with its limits and with them lifted.
-    ghost lawful: { (c : Settings) → IsLawful (wire c) };
+    ghost lawful: { (c : Settings) → IsLawful (reading c).wire };
 
-    ghost lifted_lawful: { (c : Settings) → IsLawful (lifted c) };
+    ghost lifted_lawful: { (c : Settings) → IsLawful (reading c).lifted };
 
     // What stands within the limits is a value of its place.
-    ghost fit: { (c : Settings) → StandsFit (wire c) };
+    ghost fit: { (c : Settings) → StandsFit (reading c).wire };
 
-    ghost counts: { (c : Settings) → tells_without_limits c → CountsOpeners (wire c) };
+    ghost counts: { (c : Settings) → (reading c).tells_without_limits → CountsOpeners (reading c).wire };
 
-    ghost above: { (c : Settings) → IsBelow (wire c) (lifted c) };
+    ghost above: { (c : Settings) → IsBelow (reading c).wire (reading c).lifted };
 }

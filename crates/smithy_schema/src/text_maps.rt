@@ -1,8 +1,7 @@
 //! Maps of texts that are read in one call.
-ghost use Rattle.std.specs.Prelude.{◌≡◌, string_bytes};
+ghost use Rattle.std.specs.Prelude.{◌≡◌};
 ghost use Rattle.smithy_declarations.specs.Table.{IsMap};
 ghost use Rattle.smithy_shapes.specs.Site.{site_of, kind_at};
-ghost use Rattle.smithy_schema.specs.Consuming.{reader};
 ghost use Rattle.smithy_schema.specs.TextMaps.{ReadsEntry, ReadsTexts, text_entries, entries_of};
 
 use crate::consume::MapConsumer;
@@ -41,7 +40,7 @@ pub(crate) fn read_texts<D: ShapeDeserializer>(
 ) -> Result<BTreeMap<String, String>, SerdeError>
     requires place { IsMap (kind_at (site_of schema.now)) }
     ensures same { D.settings source.new ≡ D.settings source.old }
-    ensures read { let r = reader (D.wire (D.settings source.old)) (D.lifted (D.settings source.old)) (D.tells_without_limits (D.settings source.old)) (D.max_depth (D.settings source.old)) in ReadsTexts r (site_of schema.now) (D.state source.old) (entries_of result) (D.state source.new) }
+    ensures read { ReadsTexts (D.reading (D.settings source.old)) (site_of schema.now) (D.state source.old) (entries_of result) (D.state source.new) }
 {
     let Some(value) = schema.member() else {
         unreachable!()

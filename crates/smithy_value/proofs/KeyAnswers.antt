@@ -5,7 +5,7 @@ use Rattle.smithy_declarations.specs.Table.{Table, kind_of, IsMap}
 use Rattle.smithy_schema.specs.declared.error.SerdeError.{SerdeError}
 use Rattle.smithy_schema.specs.declared.error.SerdeError.TheVariants.{InvalidInput, TypeMismatch, TooDeep, TooWide, NotCarried, Unsupported, Unwritable, Missing, Failed, NoMemory}
 use Rattle.smithy_schema.specs.Errors.{RefusesNoKind, IsRefused, IsInvalid, IsNoAnswer}
-use Rattle.smithy_schema.specs.Reading.{Cursor, Relations, Conducts, Steps, Leaves, CannotGoOn}
+use Rattle.smithy_schema.specs.Reading.{Cursor, Relations, Conducts, Steps, Leaves, CannotGoOn, reader}
 use Rattle.smithy_schema.specs.Containers.{GoesOnInMap}
 use Rattle.smithy_value.proofs.ReadWide.{error_is}
 
@@ -27,13 +27,13 @@ no_answer_as A B Missing is = absurd is
 no_answer_as A B Failed is = tt
 no_answer_as A B NoMemory is = tt
 
-module _ {A B : Type 0} (w u : Relations) (tells_without_limits : Type 0) (bytes : B → List ℕ) (old new : Cursor) where
+module _ {A B : Type 0} {max : ℕ} (w u : Relations) (tells_without_limits : Type 0) (bytes : B → List ℕ) (old new : Cursor) where
   -- the call that it came from refuses
   pub key_fails : (e : SerdeError) → Conducts {A = Option A} old new (Err e) → RefusesNoKind {A = Option A} (Err e) → (IsErrOf {T = Option A} {E = SerdeError} (Err e) TooDeep → ⊥)
       → (old.due ≡ true → IsNoAnswer {A = Option A} (Err e))
       → (IsRefused {A = Option A} (Err e) → old.due ≡ false → (t : Table) (p : Place) → IsMap (kind_of t p) → CannotGoOn w old t p)
       → (tells_without_limits → IsInvalid {A = Option A} (Err e) → old.due ≡ false → (t : Table) (p : Place) → IsMap (kind_of t p) → CannotGoOn u old t p)
-      → GoesOnInMap {K = B} w u tells_without_limits bytes old new (Err e)
+      → GoesOnInMap {K = B} (reader w u tells_without_limits max) bytes old new (Err e)
   key_fails e conduct narrow shallow unread refused none_without_limits = record {
     conduct = record {
       failed = ((λ is. conduct.failed.0 (error_as {A = Option B} {B = Option A} e Failed is)), λ failed. error_as {A = Option A} {B = Option B} e Failed (conduct.failed.1 failed));
@@ -53,7 +53,7 @@ module _ {A B : Type 0} (w u : Relations) (tells_without_limits : Type 0) (bytes
   -- it goes on, or ends
   pub key_comes : (x : Option A) (y : Option B) → Conducts {A = Option A} old new (Ok x) → (old.due ≡ true → IsNoAnswer {A = Option A} (Ok x))
       → (old.due ≡ false → (t : Table) (p : Place) → IsMap (kind_of t p) → MatchOption y (Leaves w old new t p) (λ key. Steps w old new t p (Some (bytes key))))
-      → GoesOnInMap {K = B} w u tells_without_limits bytes old new (Ok y)
+      → GoesOnInMap {K = B} (reader w u tells_without_limits max) bytes old new (Ok y)
   key_comes x y conduct unread ok = record {
     conduct = record {
       failed = ((λ is. absurd (no_error {A = Option B} y Failed is)), λ failed. absurd (no_error {A = Option A} x Failed (conduct.failed.1 failed)));

@@ -12,7 +12,7 @@ use Rattle.smithy_types.specs.Document.{whole_document}
 use Rattle.smithy_types.specs.DocumentView.{document_view}
 use Rattle.smithy_types.specs.declared.document.Document.{Document}
 use Rattle.smithy_schema.specs.Errors.{RefusesNoScalar, RefusesNoKind, TellsType, IsFault, IsInvalid}
-use Rattle.smithy_schema.specs.Reading.{Cursor, depth, Relations, IsLawful, IsBelow, CountsOpeners, IsCounted, Conducts, Reads, ReadsScalar, ReadsDocument, StandsNot, OpensNot, ReachesDepth, failed_at}
+use Rattle.smithy_schema.specs.Reading.{Cursor, depth, Relations, IsLawful, IsBelow, CountsOpeners, IsCounted, Conducts, Reads, ReadsScalar, ReadsDocument, StandsNot, OpensNot, ReachesDepth, reader, failed_at}
 use Rattle.smithy_schema.proofs.CountLemmas.{refusal_counted, value_counted}
 use Rattle.smithy_value.specs.ReadValue.{ReadsValue}
 use Rattle.smithy_value.proofs.ReadWide.{Lying, StandsInside, error_is, scalar_inside, scalar_read, place_told, kind_of_document, document_told, document_inside, document_read}
@@ -175,7 +175,7 @@ module _ (w u : Relations) (tells_without_limits : Type 0) (max : ℕ) where
 
   -- a scalar that is due is refused
   pub scalar_fails : {A B : Type 0} (kind : Scalar) (value : A → ScalarValue) (view : B → Value) (site : Site) (old new : Cursor) (e : SerdeError) → Some (scalar_type kind) ≡ type_of (kind_at site) → old.due ≡ true
-      → ReadsScalar {A = A} w u tells_without_limits old new site kind value (Err e)
+      → ReadsScalar {A = A} (reader w u tells_without_limits max) old new site kind value (Err e)
       → ReadsValue {A = B} w u tells_without_limits max old new site view (Err e)
   scalar_fails {A} {B} kind value view site old new e is due reads =
       let here = place_told site.table site.place kind is in
@@ -198,7 +198,7 @@ module _ (w u : Relations) (tells_without_limits : Type 0) (max : ℕ) where
 
   -- a document that is due is refused
   pub document_fails : {B : Type 0} (view : B → Value) (site : Site) (old new : Cursor) (e : SerdeError) → Some types.Document ≡ type_of (kind_at site) → old.due ≡ true
-      → ReadsDocument w u tells_without_limits max old new site (Err e)
+      → ReadsDocument (reader w u tells_without_limits max) old new site (Err e)
       → ReadsValue {A = B} w u tells_without_limits max old new site view (Err e)
   document_fails {B} view site old new e is due reads =
       let here = document_told site.table site.place is in
@@ -249,7 +249,7 @@ module _ (w u : Relations) (tells_without_limits : Type 0) (max : ℕ) where
 
   -- of a scalar
   pub scalar_made : {A B : Type 0} (kind : Scalar) (value : A → ScalarValue) (view : B → Value) (site : Site) (old new : Cursor) (y : A) (x : ScalarValue) (result : Result B SerdeError) → (tells_without_limits → CountsOpeners w)
-      → Some (scalar_type kind) ≡ type_of (kind_at site) → ReadsScalar {A = A} w u tells_without_limits old new site kind value (Ok y)
+      → Some (scalar_type kind) ≡ type_of (kind_at site) → ReadsScalar {A = A} (reader w u tells_without_limits max) old new site kind value (Ok y)
       → value y ≡ x → IfOk result (λ t. view t ≡ scalar_value x) → IfErr result (λ e. e ≡ NoMemory)
       → ReadsValue {A = B} w u tells_without_limits max old new site view result
   scalar_made {A} {B} kind value view site old new y x result counts is reads same made err =
@@ -258,7 +258,7 @@ module _ (w u : Relations) (tells_without_limits : Type 0) (max : ℕ) where
 
   -- of a document
   pub document_made : {B : Type 0} (view : B → Value) (site : Site) (old new : Cursor) (y : Document) (result : Result B SerdeError) → (tells_without_limits → CountsOpeners w)
-      → Some types.Document ≡ type_of (kind_at site) → ReadsDocument w u tells_without_limits max old new site (Ok y)
+      → Some types.Document ≡ type_of (kind_at site) → ReadsDocument (reader w u tells_without_limits max) old new site (Ok y)
       → IfOk result (λ t. view t ≡ document_value (whole_document (document_view y))) → IfErr result (λ e. e ≡ NoMemory)
       → ReadsValue {A = B} w u tells_without_limits max old new site view result
   document_made {B} view site old new y result counts is reads made err =

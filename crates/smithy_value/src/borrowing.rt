@@ -39,13 +39,7 @@ impl<D: ShapeDeserializer> ShapeDeserializer for Borrowing<'_, '_, D> {
 
     ghost state = { λ r. D.state r.source.now };
 
-    ghost max_depth = { λ c. D.max_depth c.0 };
-
-    ghost wire = { λ c. D.wire c.0 };
-
-    ghost lifted = { λ c. D.lifted c.0 };
-
-    ghost tells_without_limits = { λ c. D.tells_without_limits c.0 };
+    ghost reading = { λ c. D.reading c.0 };
 
     ghost sizes = { λ c. D.sizes c.0 };
 

@@ -23,7 +23,7 @@ pub fn read_value<'a, D: BorrowDeserializer<'a>>(
 ) -> Result<Value<'a>, SerdeError>
     requires due { (D.state source.old).due ≡ true }
     ensures same { D.settings source.new ≡ D.settings source.old }
-    ensures reads { let s = D.settings source.old in ReadsValue (D.wire s) (D.lifted s) (D.tells_without_limits s) (D.max_depth s) (D.state source.old) (D.state source.new) (site_of schema.now) view result }
+    ensures reads { let r = D.reading (D.settings source.old) in ReadsValue r.wire r.lifted r.tells_without_limits r.max_depth (D.state source.old) (D.state source.new) (site_of schema.now) view result }
 {
     let mut texts = Borrowing::<'_, 'a, D>::new(source);
     read_through(alloc, &mut texts, schema)
@@ -38,7 +38,7 @@ fn read_through<'a, D: BorrowDeserializer<'a>>(
     requires due { (D.state texts.old.source.now).due ≡ true }
     ensures same_reference { texts.new.source.ghost_name ≡ texts.old.source.ghost_name }
     ensures same { D.settings texts.new.source.now ≡ D.settings texts.old.source.now }
-    ensures reads { let s = D.settings texts.old.source.now in ReadsValue (D.wire s) (D.lifted s) (D.tells_without_limits s) (D.max_depth s) (D.state texts.old.source.now) (D.state texts.new.source.now) (site_of schema.now) view result }
+    ensures reads { let r = D.reading (D.settings texts.old.source.now) in ReadsValue r.wire r.lifted r.tells_without_limits r.max_depth (D.state texts.old.source.now) (D.state texts.new.source.now) (site_of schema.now) view result }
 {
     let mut trees = ValueTrees::new();
     read_tree::<ValueTrees<'a>, Borrowing<'_, 'a, D>>(alloc, texts, &mut trees, schema)
@@ -56,7 +56,7 @@ pub fn read_tree<P: Trees, D: PieceDeserializer<Text = P::Text, Bytes = P::Bytes
     requires due { (D.state source.old).due ≡ true }
     requires sound { P.sound trees.old (D.state source.old).input }
     ensures same { D.settings source.new ≡ D.settings source.old }
-    ensures reads { let s = D.settings source.old in ReadsValue (D.wire s) (D.lifted s) (D.tells_without_limits s) (D.max_depth s) (D.state source.old) (D.state source.new) (site_of schema.now) (P.view trees.new) result }
+    ensures reads { let r = D.reading (D.settings source.old) in ReadsValue r.wire r.lifted r.tells_without_limits r.max_depth (D.state source.old) (D.state source.new) (site_of schema.now) (P.view trees.new) result }
     ensures adds { IfOk result (λ x. P.keeps trees.old trees.new × P.stands trees.new x) }
 {
     match schema.shape_type() {
@@ -90,7 +90,7 @@ fn read_out_of_line<P: Trees, D: PieceDeserializer<Text = P::Text, Bytes = P::By
     requires sound { P.sound trees.old (D.state source.old).input }
     requires rare { IsRare (type_of (kind_at (site_of schema.now))) }
     ensures same { D.settings source.new ≡ D.settings source.old }
-    ensures reads { let s = D.settings source.old in ReadsValue (D.wire s) (D.lifted s) (D.tells_without_limits s) (D.max_depth s) (D.state source.old) (D.state source.new) (site_of schema.now) (P.view trees.new) result }
+    ensures reads { let r = D.reading (D.settings source.old) in ReadsValue r.wire r.lifted r.tells_without_limits r.max_depth (D.state source.old) (D.state source.new) (site_of schema.now) (P.view trees.new) result }
     ensures adds { IfOk result (λ x. P.keeps trees.old trees.new × P.stands trees.new x) }
 {
     match schema.shape_type() {
@@ -130,7 +130,7 @@ fn read_structure<P: Trees, D: PieceDeserializer<Text = P::Text, Bytes = P::Byte
     requires sound { P.sound trees.old (D.state source.old).input }
     requires place { IsStructure (kind_at (site_of schema.now)) }
     ensures same { D.settings source.new ≡ D.settings source.old }
-    ensures reads { let s = D.settings source.old in ReadsValue (D.wire s) (D.lifted s) (D.tells_without_limits s) (D.max_depth s) (D.state source.old) (D.state source.new) (site_of schema.now) (P.view trees.new) result }
+    ensures reads { let r = D.reading (D.settings source.old) in ReadsValue r.wire r.lifted r.tells_without_limits r.max_depth (D.state source.old) (D.state source.new) (site_of schema.now) (P.view trees.new) result }
     ensures adds { IfOk result (λ x. P.keeps trees.old trees.new × P.stands trees.new x) }
 {
     source.open_struct(schema)?;
@@ -162,7 +162,7 @@ fn read_union<P: Trees, D: PieceDeserializer<Text = P::Text, Bytes = P::Bytes>>(
     requires sound { P.sound trees.old (D.state source.old).input }
     requires place { IsUnion (kind_at (site_of schema.now)) }
     ensures same { D.settings source.new ≡ D.settings source.old }
-    ensures reads { let s = D.settings source.old in ReadsValue (D.wire s) (D.lifted s) (D.tells_without_limits s) (D.max_depth s) (D.state source.old) (D.state source.new) (site_of schema.now) (P.view trees.new) result }
+    ensures reads { let r = D.reading (D.settings source.old) in ReadsValue r.wire r.lifted r.tells_without_limits r.max_depth (D.state source.old) (D.state source.new) (site_of schema.now) (P.view trees.new) result }
     ensures adds { IfOk result (λ x. P.keeps trees.old trees.new × P.stands trees.new x) }
 {
     source.open_struct(schema)?;
@@ -193,7 +193,7 @@ fn read_list<P: Trees, D: PieceDeserializer<Text = P::Text, Bytes = P::Bytes>>(
     requires sound { P.sound trees.old (D.state source.old).input }
     requires place { IsList (kind_at (site_of schema.now)) }
     ensures same { D.settings source.new ≡ D.settings source.old }
-    ensures reads { let s = D.settings source.old in ReadsValue (D.wire s) (D.lifted s) (D.tells_without_limits s) (D.max_depth s) (D.state source.old) (D.state source.new) (site_of schema.now) (P.view trees.new) result }
+    ensures reads { let r = D.reading (D.settings source.old) in ReadsValue r.wire r.lifted r.tells_without_limits r.max_depth (D.state source.old) (D.state source.new) (site_of schema.now) (P.view trees.new) result }
     ensures adds { IfOk result (λ x. P.keeps trees.old trees.new × P.stands trees.new x) }
 {
     source.open_list(schema)?;
@@ -226,7 +226,7 @@ fn read_map<P: Trees, D: PieceDeserializer<Text = P::Text, Bytes = P::Bytes>>(
     requires sound { P.sound trees.old (D.state source.old).input }
     requires place { IsMap (kind_at (site_of schema.now)) }
     ensures same { D.settings source.new ≡ D.settings source.old }
-    ensures reads { let s = D.settings source.old in ReadsValue (D.wire s) (D.lifted s) (D.tells_without_limits s) (D.max_depth s) (D.state source.old) (D.state source.new) (site_of schema.now) (P.view trees.new) result }
+    ensures reads { let r = D.reading (D.settings source.old) in ReadsValue r.wire r.lifted r.tells_without_limits r.max_depth (D.state source.old) (D.state source.new) (site_of schema.now) (P.view trees.new) result }
     ensures adds { IfOk result (λ x. P.keeps trees.old trees.new × P.stands trees.new x) }
 {
     source.open_map(schema)?;

@@ -8,7 +8,7 @@ ghost use Rattle.smithy_value.specs.Building.{IsMade, KeepsLawfully, GrowsLawful
 ghost use Rattle.smithy_value.specs.Tree.{part_view, PartStands};
 
 use crate::entries::{Entries, Members};
-use smithy_schema::{BytesView, SerdeError, TextView};
+use smithy_schema::{BytesPiece, SerdeError, TextPiece};
 use smithy_types::{DateTime, Document};
 use std::alloc::Global;
 
@@ -50,10 +50,10 @@ pub trait Trees: Sized {
     type Tree: Drop;
 
     /// A text, as the tree is given it.
-    type Text: TextView;
+    type Text: TextPiece;
 
     /// Any bytes, as the tree is given them.
-    type Bytes: BytesView;
+    type Bytes: BytesPiece;
 
     /// The elements of a list that is half built.
     type Elements: Drop;
@@ -119,12 +119,12 @@ pub trait Trees: Sized {
         ensures shows { (p : Self) → view p result ≡ null_element };
 
     fn text(&mut self, content: Self::Text) -> Result<Self::Tree, SerdeError>
-        requires stands { (i : List ℕ) × sound self.old i × Self.Text.stands i content }
+        requires stands { (i : List ℕ) × sound self.old i × Self.Text.is_placed i content }
         ensures ok { (i : List ℕ) → sound self.old i → IfOk result (IsMade keeps stands view self.old self.new (scalar_value (text (Self.Text.bytes_of i content)))) }
         ensures err { IfErr result (λ e. e ≡ NoMemory) };
 
     fn bytes(&mut self, content: Self::Bytes) -> Result<Self::Tree, SerdeError>
-        requires stands { (i : List ℕ) × sound self.old i × Self.Bytes.stands i content }
+        requires stands { (i : List ℕ) × sound self.old i × Self.Bytes.is_placed i content }
         ensures ok { (i : List ℕ) → sound self.old i → IfOk result (IsMade keeps stands view self.old self.new (scalar_value (bytes (Self.Bytes.items_of i content)))) }
         ensures err { IfErr result (λ e. e ≡ NoMemory) };
 
@@ -180,7 +180,7 @@ pub trait Trees: Sized {
         key: Self::Text,
         value: Self::Tree,
     ) -> Result<(), SerdeError>
-        requires key { (i : List ℕ) × sound self.old i × Self.Text.stands i key }
+        requires key { (i : List ℕ) × sound self.old i × Self.Text.is_placed i key }
         requires begun { (p : Self) × begun_entries p self.old entries.old }
         requires stands { stands self.old value }
         ensures begun { OnOk result ((p : Self) → begun_entries p self.old entries.old → begun_entries p self.new entries.new) }

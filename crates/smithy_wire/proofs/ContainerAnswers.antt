@@ -9,7 +9,7 @@ use Rattle.smithy_schema.specs.declared.step.Step.{Step}
 use Rattle.smithy_shapes.specs.Site.{Site}
 use Rattle.smithy_schema.specs.Errors.{IsOfReader, FindsNone, TellsType, IsRefused, IsInvalid, RefusesNoScalar, RefusesNoKind}
 use Rattle.smithy_schema.specs.Containers.{Opens, GoesOnInStructure}
-use Rattle.smithy_schema.specs.Reading.{Cursor, Frame, ContainerKind, depth, Relations, IsLawful, Conducts, OpensNot, MatchStep, CannotGoOn, ReachesDepth, failed_at, passed_to}
+use Rattle.smithy_schema.specs.Reading.{Cursor, Frame, ContainerKind, depth, Relations, IsLawful, Conducts, OpensNot, MatchStep, CannotGoOn, ReachesDepth, reader, failed_at, passed_to}
 use Rattle.smithy_wire.specs.Finding.{EntersInto}
 use Rattle.smithy_wire.specs.Stepping.{StepsFrom}
 use Rattle.smithy_wire.specs.Walking.{entered_into}
@@ -21,7 +21,7 @@ module _ (w u : Relations) (tells_without_limits : Type 0) (max : ℕ) (site : S
   module _ (within : ContainerKind) (old : Cursor) (sound : old.failed ≡ false) (due : old.due ≡ true) (inside : old.at ≤ length old.input) where
     refuses : (new : Cursor) (e : SerdeError) → new ≡ failed_at old → (e ≡ Failed → ⊥) → IsOfReader e → RefusesNoScalar {A = Unit {0}} (Err e) → (IsErrOf {T = Unit {0}} (Err e) TooDeep → ⊥)
         → TellsType (w.mismatches old.input site.table site.place old.at) e → OpensNot w old site.table site.place → OpensNot u old site.table site.place
-        → Opens w u tells_without_limits max old new site within (Err e)
+        → Opens (reader w u tells_without_limits max) old new site within (Err e)
     refuses new e stays unfailed reading narrow shallow tells none none_lifted = record {
       conduct = conducts old new e stays inside sound unfailed reading;
       narrow = narrow;
@@ -37,12 +37,12 @@ module _ (w u : Relations) (tells_without_limits : Type 0) (max : ℕ) (site : S
 
     -- none opens there
     pub opens_none : (new : Cursor) (e : SerdeError) → new ≡ failed_at old → FindsNone e → TellsType (w.mismatches old.input site.table site.place old.at) e
-        → OpensNot w old site.table site.place → OpensNot u old site.table site.place → Opens w u tells_without_limits max old new site within (Err e)
+        → OpensNot w old site.table site.place → OpensNot u old site.table site.place → Opens (reader w u tells_without_limits max) old new site within (Err e)
     opens_none new InvalidInput stays none = refuses new InvalidInput stays (λ h. cc) tt ((λ h. cc), λ h. cc) (λ h. cc)
     opens_none new TypeMismatch stays none = refuses new TypeMismatch stays (λ h. cc) tt ((λ h. cc), λ h. cc) (λ h. cc)
     opens_none new _ stays none = absurd none
 
-    no_memory : (new : Cursor) → new ≡ failed_at old → Opens w u tells_without_limits max old new site within (Err NoMemory)
+    no_memory : (new : Cursor) → new ≡ failed_at old → Opens (reader w u tells_without_limits max) old new site within (Err NoMemory)
     no_memory new stays = record {
       conduct = conducts old new NoMemory stays inside sound (λ h. cc) tt;
       narrow = ((λ h. cc), λ h. cc);
@@ -57,7 +57,7 @@ module _ (w u : Relations) (tells_without_limits : Type 0) (max : ℕ) (site : S
     }
 
     module _ (b : ℕ) (frame : Frame) (allows : w.allows (depth old) ↔ (nat_le (suc (depth old)) max ≡ true)) (opens : w.opens old.input site.table site.place (depth old) old.at b frame.mark) where
-      too_deep : (new : Cursor) → new ≡ failed_at old → depth old ≡ max → Opens w u tells_without_limits max old new site within (Err TooDeep)
+      too_deep : (new : Cursor) → new ≡ failed_at old → depth old ≡ max → Opens (reader w u tells_without_limits max) old new site within (Err TooDeep)
       too_deep new stays deepest = record {
         conduct = conducts old new TooDeep stays inside sound (λ h. cc) tt;
         narrow = ((λ h. cc), λ h. cc);
@@ -71,7 +71,7 @@ module _ (w u : Relations) (tells_without_limits : Type 0) (max : ℕ) (site : S
         deep = λ deep none. none b frame.mark opens;
       }
 
-      entered : IsLawful w → b ≤ length old.input → frame.within ≡ within → depth old < max → Opens w u tells_without_limits max old (entered_into old b frame) site within (Ok tt)
+      entered : IsLawful w → b ≤ length old.input → frame.within ≡ within → depth old < max → Opens (reader w u tells_without_limits max) old (entered_into old b frame) site within (Ok tt)
       entered laws ends is room =
           let ahead : old.at ≤ b = elim (laws.opens_ahead old.input site.table site.place (depth old) old.at b frame.mark opens) [
             | inl less ↦ omega (arith, less)
@@ -101,7 +101,7 @@ module _ (w u : Relations) (tells_without_limits : Type 0) (max : ℕ) (site : S
 
       -- one opens there, and is entered where fewer are open than may be
       pub opens_one : (new : Cursor) (held : ℕ) (given : Frame) (result : Result (Unit {0}) SerdeError) → IsLawful w → b ≤ length old.input → frame.within ≡ within → held ≡ max → given ≡ frame
-          → EntersInto old new held b given result → Opens w u tells_without_limits max old new site within result
+          → EntersInto old new held b given result → Opens (reader w u tells_without_limits max) old new site within result
       opens_one new held given (Ok x) laws ends is limit same enters =
           rw (enters.ok, same) (entered laws ends is (subst (λ n. depth old < n) limit enters.shallow))
       opens_one new held given (Err e) laws ends is limit same enters = elim enters.error [
@@ -112,8 +112,8 @@ module _ (w u : Relations) (tells_without_limits : Type 0) (max : ℕ) (site : S
   -- ---- what comes next in a structure or a union
 
   -- where no value was due
-  pub steps_undue : (old new : Cursor) (result : Result Step SerdeError) → old.due ≡ false → StepsFrom w u max old old.at new site result
-      → (IsErrOf result TooDeep → w.limits_skips ≡ true) → GoesOnInStructure w u tells_without_limits max old new site result
+  pub steps_undue : {told : Type 0} (old new : Cursor) (result : Result Step SerdeError) → old.due ≡ false → StepsFrom (reader w u told max) old old.at new site result
+      → (IsErrOf result TooDeep → w.limits_skips ≡ true) → GoesOnInStructure (reader w u tells_without_limits max) old new site result
   steps_undue old new result undue from limited =
       let same : passed_to old old.at ≡ old = ap (λ (due : Bool). record old { due = due }) (sym undue) in
       record {
@@ -135,7 +135,7 @@ module _ (w u : Relations) (tells_without_limits : Type 0) (max : ℕ) (site : S
       → (IsRefused result → (e : ℕ) → w.skips old.input (depth old) old.at e → CannotGoOn w (passed_to old e) site.table site.place)
       → (tells_without_limits → IsInvalid result → (e : ℕ) → u.skips old.input (depth old) old.at e → CannotGoOn u (passed_to old e) site.table site.place)
       → (IsErrOf result TooDeep → ReachesDepth w max old) → (IsErrOf result TooDeep → w.limits_skips ≡ true)
-      → GoesOnInStructure w u tells_without_limits max old new site result
+      → GoesOnInStructure (reader w u tells_without_limits max) old new site result
   steps_past old new result due conduct narrow ok refused none_without_limits deep limited = record {
     conduct = conduct;
     narrow = narrow;
@@ -150,11 +150,11 @@ module _ (w u : Relations) (tells_without_limits : Type 0) (max : ℕ) (site : S
   }
 
   -- where it ends at a place
-  pub steps_behind : (old new : Cursor) (result : Result Step SerdeError) (end : ℕ) → old.due ≡ true → w.skips old.input (depth old) old.at end
+  pub steps_behind : {told : Type 0} (old new : Cursor) (result : Result Step SerdeError) (end : ℕ) → old.due ≡ true → w.skips old.input (depth old) old.at end
       → ((e : ℕ) → w.skips old.input (depth old) old.at e → end ≡ e) → ((e : ℕ) → u.skips old.input (depth old) old.at e → end ≡ e)
-      → StepsFrom w u max old end new site result
+      → StepsFrom (reader w u told max) old end new site result
       → (IsErrOf result TooDeep → ReachesDepth w max old) → (IsErrOf result TooDeep → w.limits_skips ≡ true)
-      → GoesOnInStructure w u tells_without_limits max old new site result
+      → GoesOnInStructure (reader w u tells_without_limits max) old new site result
   steps_behind old new result end due skips same same_lifted from =
       steps_past old new result due from.conduct from.narrow
       (IfOk-weaker result (λ step. MatchStep step w (passed_to old end) new site) (λ step. (e : ℕ) × w.skips old.input (depth old) old.at e × MatchStep step w (passed_to old e) new site)
@@ -163,8 +163,8 @@ module _ (w u : Relations) (tells_without_limits : Type 0) (max : ℕ) (site : S
       (λ strict fault e there. subst (λ e. CannotGoOn u (passed_to old e) site.table site.place) (same_lifted e there) (from.none_without_limits fault))
 
   -- what is said whatever the settings are is said under these
-  pub steps_always : (old new : Cursor) (result : Result Step SerdeError) → GoesOnInStructure w u (Unit {0}) max old new site result
-      → GoesOnInStructure w u tells_without_limits max old new site result
+  pub steps_always : (old new : Cursor) (result : Result Step SerdeError) → GoesOnInStructure (reader w u (Unit {0}) max) old new site result
+      → GoesOnInStructure (reader w u tells_without_limits max) old new site result
   steps_always old new result said = record {
     conduct = said.conduct;
     narrow = said.narrow;
@@ -178,9 +178,9 @@ module _ (w u : Relations) (tells_without_limits : Type 0) (max : ℕ) (site : S
     limited = said.limited;
   }
 
-module _ (w u : Relations) (max : ℕ) (site : Site) (old new : Cursor) (at : ℕ) where
+module _ {told : Type 0} (w u : Relations) (max : ℕ) (site : Site) (old new : Cursor) (at : ℕ) where
   -- the step is to an entry, or out of the structure
-  pub stepped : (step : Step) → Conducts old new (Ok step) → MatchStep step w (passed_to old at) new site → StepsFrom w u max old at new site (Ok step)
+  pub stepped : (step : Step) → Conducts old new (Ok step) → MatchStep step w (passed_to old at) new site → StepsFrom (reader w u told max) old at new site (Ok step)
   stepped step conduct steps = record {
     conduct = conduct;
     narrow = (((λ h. cc), λ h. cc), λ h. cc);
@@ -193,7 +193,7 @@ module _ (w u : Relations) (max : ℕ) (site : Site) (old new : Cursor) (at : �
   -- neither comes
   pub stuck : (error : SerdeError) → error ≡ InvalidInput → new ≡ failed_at old → old.at ≤ length old.input → old.failed ≡ false
       → CannotGoOn w (passed_to old at) site.table site.place → CannotGoOn u (passed_to old at) site.table site.place
-      → StepsFrom w u max old at new site (Err error)
+      → StepsFrom (reader w u told max) old at new site (Err error)
   stuck error is stays within sound none none_lifted = rw is (record {
     conduct = conducts old new InvalidInput stays within sound (λ h. cc) tt;
     narrow = (((λ h. cc), λ h. cc), λ h. cc);

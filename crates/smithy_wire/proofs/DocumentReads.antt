@@ -10,12 +10,12 @@ use Rattle.smithy_declarations.specs.declared.place.Place.{Place}
 use Rattle.smithy_declarations.specs.Table.{document_place}
 use Rattle.smithy_shapes.specs.Site.{Site}
 use Rattle.smithy_declarations.specs.Value.{document_value}
-use Rattle.smithy_schema.specs.Reading.{Cursor, depth, Relations, IsLawful, StandsNot, Uncarried, ReachesDepth, ReadsDocument, failed_at, passed_to}
+use Rattle.smithy_schema.specs.Reading.{Cursor, depth, Relations, IsLawful, StandsNot, Uncarried, ReachesDepth, ReadsDocument, reader, failed_at, passed_to}
 use Rattle.smithy_wire.proofs.ScalarReads.{fails_again, conducts, goes_on}
 
 module _ (w u : Relations) (tells_without_limits : Type 0) (max : ℕ) (site : Site) where
   abbrev Says : Cursor → Cursor → Result Document SerdeError → Type 0
-  Says old new result = ReadsDocument w u tells_without_limits max old new site result
+  Says old new result = ReadsDocument (reader w u tells_without_limits max) old new site result
 
   abbrev at : Place
   at = document_place site.place.time

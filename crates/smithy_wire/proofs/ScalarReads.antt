@@ -10,7 +10,7 @@ use Rattle.smithy_declarations.specs.Table.{scalar_place}
 use Rattle.smithy_shapes.specs.Site.{Site}
 use Rattle.smithy_declarations.specs.Value.{ScalarValue, scalar_value}
 use Rattle.smithy_schema.specs.Errors.{IsOfReader, TellsType}
-use Rattle.smithy_schema.specs.Reading.{Cursor, depth, Relations, IsLawful, StandsNot, Exceeds, Uncarried, Conducts, ReadsScalar, AnswersWide, AnswersUncarried, failed_at, passed_to}
+use Rattle.smithy_schema.specs.Reading.{Cursor, depth, Relations, Reader, IsLawful, StandsNot, Exceeds, Uncarried, Conducts, ReadsScalar, AnswersWide, AnswersUncarried, failed_at, passed_to}
 use Rattle.smithy_wire.specs.declared.found.Found.{Found}
 use Rattle.smithy_wire.specs.declared.found.Found.TheVariants.{Value, Nothing, Beyond}
 use Rattle.smithy_wire.specs.Finding.{MatchFound, Takes, TakesWithin, typed, told_as, told}
@@ -143,10 +143,16 @@ goes_on old new x sound ahead within = record {
   within = within;
 }
 
-module _ {A : Type 0} (w u : Relations) (tells_without_limits : Type 0) (site : Site) (s : Scalar) (value : A → ScalarValue) where
+module _ {A : Type 0} (told_by : Reader) (site : Site) (s : Scalar) (value : A → ScalarValue) where
+  abbrev w : Relations
+  w = told_by.wire
+
+  abbrev u : Relations
+  u = told_by.lifted
+
   -- what a read says where nothing is of another type: all is refused by `InvalidInput`
   abbrev Says : Cursor → Cursor → Result A SerdeError → Type 0
-  Says old new result = ReadsScalar (record w { mismatches = λ i t p a. false }) u tells_without_limits old new site s value result
+  Says old new result = ReadsScalar (record told_by { wire = record w { mismatches = λ i t p a. false } }) old new site s value result
 
   -- nothing of the kind stands there, whatever the limits
   abbrev pub NoneStands : Cursor → Type 0
@@ -213,7 +219,7 @@ module _ {A : Type 0} (w u : Relations) (tells_without_limits : Type 0) (site : 
 
   -- a refusal that tells the type
   refused_so : (old new : Cursor) (e : SerdeError) → (old.due ≡ true → TellsType (w.mismatches old.input site.table (scalar_place s site.place.time) old.at) e) → Says old new (Err e)
-      → ReadsScalar w u tells_without_limits old new site s value (Err e)
+      → ReadsScalar told_by old new site s value (Err e)
   refused_so old new e tells says = record {
     conduct = says.conduct;
     shallow = says.shallow;
@@ -228,7 +234,7 @@ module _ {A : Type 0} (w u : Relations) (tells_without_limits : Type 0) (site : 
 
   -- what comes is of another type
   is_other : (old new : Cursor) → w.mismatches old.input site.table (scalar_place s site.place.time) old.at ≡ true → old.due ≡ true → Says old new (Err InvalidInput)
-      → ReadsScalar w u tells_without_limits old new site s value (Err TypeMismatch)
+      → ReadsScalar told_by old new site s value (Err TypeMismatch)
   is_other old new is due says = record {
     conduct = record {
       failed = (λ h. cc, λ h. absurd (let no : ◌≡◌ {A = Result A SerdeError} (Err InvalidInput) (Err Failed) = says.conduct.failed.1 h in cc));
@@ -247,7 +253,7 @@ module _ {A : Type 0} (w u : Relations) (tells_without_limits : Type 0) (site : 
     none_without_limits = says.none_without_limits;
   }
 
-  was_read : (old new : Cursor) (x : A) → Says old new (Ok x) → ReadsScalar w u tells_without_limits old new site s value (Ok x)
+  was_read : (old new : Cursor) (x : A) → Says old new (Ok x) → ReadsScalar told_by old new site s value (Ok x)
   was_read old new x says = record {
     conduct = says.conduct;
     shallow = says.shallow;
@@ -262,7 +268,7 @@ module _ {A : Type 0} (w u : Relations) (tells_without_limits : Type 0) (site : 
 
   -- an answer as it is told
   tells : (old new : Cursor) (other : Bool) → w.mismatches old.input site.table (scalar_place s site.place.time) old.at ≡ other → old.due ≡ true → (result : Result A SerdeError) → Says old new result
-      → ReadsScalar w u tells_without_limits old new site s value (told other result)
+      → ReadsScalar told_by old new site s value (told other result)
   tells old new false is due (Ok x) says = was_read old new x says
   tells old new true is due (Ok x) says = was_read old new x says
   tells old new false is due (Err e) says = refused_so old new e (λ here. subst (λ b. TellsType b e) (sym is) (says.told here)) says
@@ -324,13 +330,13 @@ module _ {A : Type 0} (w u : Relations) (tells_without_limits : Type 0) (site : 
     -- of what was found, or not
     pub takes : (new : Cursor) (found : Option (A × ℕ)) (result : Result A SerdeError) → IfSome found (λ r. Stands r.0 r.1) → IfNone found (NoneStands old)
         → IfOk result (λ x. IfSome found (λ r. (r.0 ≡ x) × (new ≡ passed_to old r.1))) → (IsOk result → IsSome found) → (IsErr result → IsNone found)
-        → OnErr result (new ≡ failed_at old) → IfErr result (λ e. e ≡ InvalidInput) → ReadsScalar w u tells_without_limits old new site s value (told other result)
+        → OnErr result (new ≡ failed_at old) → IfErr result (λ e. e ≡ InvalidInput) → ReadsScalar told_by old new site s value (told other result)
     takes new found result stands none taken some fails stays error =
         tells old new other is due result (takes_plainly new found result stands none taken some fails stays error)
 
     -- of what a search that takes memory found, or not
     pub takes_found : (new : Cursor) (found : Result (Option (A × ℕ)) AllocError) (result : Result A SerdeError)
-        → IfOk found (λ o. MatchOption o (NoneStands old) (λ r. Stands r.0 r.1)) → Takes old new found result → ReadsScalar w u tells_without_limits old new site s value (told other result)
+        → IfOk found (λ o. MatchOption o (NoneStands old) (λ r. Stands r.0 r.1)) → Takes old new found result → ReadsScalar told_by old new site s value (told other result)
     takes_found new found result here taken = tells old new other is due result (finds_plainly new found result here taken)
 
     -- it answers so wherever such a thing stands
@@ -347,7 +353,7 @@ module _ {A : Type 0} (w u : Relations) (tells_without_limits : Type 0) (site : 
     pub takes_within_limits : (new : Cursor) (found : Result (Found (A × ℕ)) AllocError) (result : Result A SerdeError)
         → IfOk found (λ f. MatchFound f (λ r. Stands r.0 r.1) (NoneStands old)
         (Exceeds w old site.table (scalar_place s site.place.time) × StandsNot w old site.table (scalar_place s site.place.time)))
-        → TakesWithin old new TooWide found result → ReadsScalar w u tells_without_limits old new site s value (told other result)
+        → TakesWithin old new TooWide found result → ReadsScalar told_by old new site s value (told other result)
     takes_within_limits new found result here taken =
         tells old new other is due result
         (takes_excluding TooWide (Exceeds w old site.table (scalar_place s site.place.time)) new found result (λ stays there none. exceeds_limits old new stays within sound due there none) here taken)
@@ -363,7 +369,7 @@ module _ {A : Type 0} (w u : Relations) (tells_without_limits : Type 0) (site : 
     pub takes_what_is_carried : (new : Cursor) (found : Result (Found (A × ℕ)) AllocError) (result : Result A SerdeError)
         → IfOk found (λ f. MatchFound f (λ r. Stands r.0 r.1) (NoneStands old)
         (Uncarried w old site.table (scalar_place s site.place.time) × StandsNot w old site.table (scalar_place s site.place.time)))
-        → TakesWithin old new NotCarried found result → ReadsScalar w u tells_without_limits old new site s value (told other result)
+        → TakesWithin old new NotCarried found result → ReadsScalar told_by old new site s value (told other result)
     takes_what_is_carried new found result here taken =
         tells old new other is due result
         (takes_excluding NotCarried (Uncarried w old site.table (scalar_place s site.place.time)) new found result (λ stays there none. carries_not old new stays within sound due there none) here taken)

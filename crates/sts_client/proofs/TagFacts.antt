@@ -9,8 +9,8 @@ use Rattle.smithy_shapes.specs.Site.{Site, kind_at, inner_site}
 use Rattle.smithy_declarations.specs.Value.{list, values_of}
 use Rattle.smithy_shapes.specs.Lemmas.Options.{same_some}
 use Rattle.smithy_schema.specs.Errors.{IsFault}
-use Rattle.smithy_schema.specs.Reading.{Cursor, in_list, IsLawful, Reads, StandsNot}
-use Rattle.smithy_schema.specs.Consuming.{Reader, Consumes, by_element}
+use Rattle.smithy_schema.specs.Reading.{Cursor, in_list, IsLawful, Reads, StandsNot, Reader}
+use Rattle.smithy_schema.specs.Consuming.{Consumes, by_element}
 use Rattle.smithy_schema.specs.Fields.{structure_with}
 use Rattle.smithy_schema.specs.Typed.{MayAnswer, FailsAsReader}
 use Rattle.smithy_schema.proofs.ConsumingLemmas.{same_error}

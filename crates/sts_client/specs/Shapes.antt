@@ -11,8 +11,7 @@ use Rattle.smithy_shapes.specs.Declares.{Declares}
 use Rattle.smithy_declarations.specs.Value.{Value, scalar_value, whole, instant, list, values_of}
 use Rattle.smithy_shapes.specs.Site.{Site, kind_at, member_site, inner_site}
 use Rattle.smithy_schema.specs.Errors.{IsFault}
-use Rattle.smithy_schema.specs.Reading.{Cursor, Reads, StandsNot}
-use Rattle.smithy_schema.specs.Consuming.{Reader}
+use Rattle.smithy_schema.specs.Reading.{Cursor, Reads, StandsNot, Reader}
 use Rattle.smithy_schema.specs.Fields.{structure_with}
 use Rattle.smithy_schema.specs.Typed.{MayAnswer}
 use Rattle.smithy_schema.specs.TextMaps.{text_value}

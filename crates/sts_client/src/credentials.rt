@@ -113,7 +113,7 @@ pub fn read_credentials<D: ShapeDeserializer>(
     ensures same { D.settings source.new ≡ D.settings source.old }
 
     // What stood there is the structure of these fields, and a fault comes only where no such structure stands.
-    ensures reads { ReadsDueAs (D.wire (D.settings source.old)) (D.state source.old) (D.state source.new) (site_of schema.now) (λ keys. structure_with (credentials_fields keys)) result }
+    ensures reads { ReadsDueAs (D.reading (D.settings source.old)).wire (D.state source.old) (D.state source.new) (site_of schema.now) (λ keys. structure_with (credentials_fields keys)) result }
     ensures takes { OnOk result (IsTaken (D.state source.old) (D.state source.new)) }
 {
     let mut keys = Credentials {

@@ -113,7 +113,7 @@ pub fn read_request<D: ShapeDeserializer>(
     ensures same { D.settings source.new ≡ D.settings source.old }
 
     // What stood there is the structure of these fields, and a fault comes only where no such structure stands.
-    ensures reads { ReadsDueAs (D.wire (D.settings source.old)) (D.state source.old) (D.state source.new) (site_of schema.now) (λ request. structure_with (request_fields request)) result }
+    ensures reads { ReadsDueAs (D.reading (D.settings source.old)).wire (D.state source.old) (D.state source.new) (site_of schema.now) (λ request. structure_with (request_fields request)) result }
 {
     let mut request = AssumeRoleRequest {
         role_arn: None,

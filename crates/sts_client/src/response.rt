@@ -99,7 +99,7 @@ fn read_user<D: ShapeDeserializer>(
 ) -> Result<AssumedRoleUser, SerdeError>
     requires place { IsUser (site_of schema.now) }
     ensures same { D.settings source.new ≡ D.settings source.old }
-    ensures reads { ReadsDueAs (D.wire (D.settings source.old)) (D.state source.old) (D.state source.new) (site_of schema.now) (λ user. structure_with (user_fields user)) result }
+    ensures reads { ReadsDueAs (D.reading (D.settings source.old)).wire (D.state source.old) (D.state source.new) (site_of schema.now) (λ user. structure_with (user_fields user)) result }
     ensures takes { OnOk result (IsTaken (D.state source.old) (D.state source.new)) }
 {
     let mut user = AssumedRoleUser {
@@ -203,7 +203,7 @@ pub fn read_response<D: ShapeDeserializer>(
     ensures same { D.settings source.new ≡ D.settings source.old }
 
     // What stood there is the structure of these fields, and a fault comes only where no such structure stands.
-    ensures reads { ReadsDueAs (D.wire (D.settings source.old)) (D.state source.old) (D.state source.new) (site_of schema.now) (λ response. structure_with (response_fields response)) result }
+    ensures reads { ReadsDueAs (D.reading (D.settings source.old)).wire (D.state source.old) (D.state source.new) (site_of schema.now) (λ response. structure_with (response_fields response)) result }
 {
     let mut response = AssumeRoleResponse {
         credentials: None,

@@ -122,7 +122,7 @@ pub fn read_tags<D: ShapeDeserializer>(
     ensures same { D.settings source.new ≡ D.settings source.old }
 
     // What stood there is the list of these tags, and a fault comes only where no such list stands.
-    ensures reads { ReadsDueAs (D.wire (D.settings source.old)) (D.state source.old) (D.state source.new) (site_of schema.now) (λ tags. list (values_of (tag_values tags.items))) result }
+    ensures reads { ReadsDueAs (D.reading (D.settings source.old)).wire (D.state source.old) (D.state source.new) (site_of schema.now) (λ tags. list (values_of (tag_values tags.items))) result }
     ensures takes { OnOk result (IsTaken (D.state source.old) (D.state source.new)) }
 {
     let Some(shape) = schema.member() else {

@@ -9,9 +9,9 @@ use Rattle.smithy_cbor_values.specs.Private.ScalarAtPlace.{HasTextAt}
 
 -- in whatever input this text is an item that ends at e, what is handed out is the text, and lies in the item
 abbrev pub IsMeantUpTo : {A T : Type 0} → (List ℕ → T → List ℕ) → (List ℕ → T → Type 0) → (ℕ → ℕ → T → Type 0) → CowStr A → ℕ → T → Type 0
-IsMeantUpTo bytes stands lies text e handed =
+IsMeantUpTo bytes is_placed is_between text e handed =
     (input : List ℕ) (at : ℕ) → BorrowsText input at (IsBorrowedStr text) e → HasTextAt (cow_str_bytes text) input at e
-    → (bytes input handed ≡ cow_str_bytes text) × stands input handed × lies at e handed
+    → (bytes input handed ≡ cow_str_bytes text) × is_placed input handed × is_between at e handed
 
 -- a key that comes is a text string of the input, borrowed exactly where it is definite
 abbrev pub BorrowsKey : List ℕ → ℕ → Next → Type 0

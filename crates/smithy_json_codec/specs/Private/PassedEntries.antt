@@ -1,5 +1,5 @@
 -- What comes in an object behind the entries that are passed over, as private functions answer it.
-use Rattle.std.specs.Prelude.{◌≡◌, ◌⊎◌, ℕ, zero, suc, List, drop, Bool, true, Some, None, codes}
+use Rattle.std.specs.Prelude.{◌≡◌, ◌⊎◌, ◌≤◌, ◌+◌, ℕ, zero, suc, List, drop, Bool, true, Some, None, Result, IfOk, IfErr, IsErrOf, codes}
 use Rattle.std.specs.Cow.{cow_str_bytes}
 use Rattle.smithy_schema.specs.declared.error.SerdeError.{SerdeError}
 use Rattle.smithy_schema.specs.declared.error.SerdeError.TheVariants as errors
@@ -13,7 +13,9 @@ use Rattle.smithy_json_codec.specs.declared.members.EntryFault.{EntryFault}
 use Rattle.smithy_json_codec.specs.declared.members.EntryFault.TheVariants.{NoEntry, TooDeep, NoMemory}
 use Rattle.smithy_json_values.specs.declared.skip.SkipFault.{SkipFault}
 use Rattle.smithy_json_values.specs.declared.skip.SkipFault.TheVariants as skip_faults
+use Rattle.smithy_json_values.specs.Deepest.{OpensTooDeep}
 use Rattle.smithy_json_values.specs.LexicalGrammar.{LexicalGrammar, frames_of}
+use Rattle.smithy_json_values.specs.Openers.{json_openers}
 use Rattle.smithy_json_values.specs.Spans.{Lies, IsByte}
 use Rattle.smithy_json_values.specs.Tokens.{BoundaryBy, EndsInside}
 use Rattle.smithy_json_values.specs.Private.NextInContainer.{ClosesIn, NamesIn}
@@ -123,6 +125,15 @@ pub record NothingComes (g : LexicalGrammar) (Stays : ℕ → Type 0) (passing :
   pub after : Bool
   pub passes : Passes g passing greatest depth count input at entered place after
   pub missing : EntryMissing g Stays passing depth input place after
+
+-- What a call answers that looks for what comes in an object from a place on, inside of so many containers. `Missing Stays` says why
+-- nothing comes, where `Stays c` says that no value at c may be skipped.
+pub record FindsNext {A : Type 0} (g : LexicalGrammar) (greatest depth : ℕ) (input : List ℕ) (at : ℕ) (Comes : A → Type 0) (Missing : (ℕ → Type 0) → Type 0) (result : Result A EntryFault) : Type 0 where
+  pub ok : IfOk result Comes
+  pub refused : IfErr result (λ e. (e ≡ NoMemory → ⊥) → Missing (NoSkipWithin g greatest depth input))
+  pub none_without_limits : IsErrOf result NoEntry → Missing (NoSkip g depth input)
+  pub deep : IsErrOf result TooDeep → greatest ≤ depth + json_openers (drop at input)
+  pub too_deep : IsErrOf result TooDeep → (q : ℕ) × (at ≤ q) × OpensTooDeep g greatest depth input q
 
 -- ---- refusals
 

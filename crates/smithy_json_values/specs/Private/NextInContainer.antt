@@ -34,10 +34,10 @@ abbrev pub ElementBegins : List ℕ → ℕ → Bool → ℕ → Type 0
 ElementBegins input at entered c = IsSeparated entered input at c × IsNotFirst end_array input c
 
 -- how a list goes on, exactly
-abbrev pub GoesOnInList : LexicalGrammar → List ℕ → ℕ → Bool → ℕ → Option InList → Type 0
-GoesOnInList g input at entered depth (Some (Element c)) = ElementBegins input at entered c
-GoesOnInList g input at entered depth (Some (EndOfList e)) = ClosesIn g end_array input at depth e
-GoesOnInList g input at entered depth None =
+abbrev pub GoesOnInArray : LexicalGrammar → List ℕ → ℕ → Bool → ℕ → Option InList → Type 0
+GoesOnInArray g input at entered depth (Some (Element c)) = ElementBegins input at entered c
+GoesOnInArray g input at entered depth (Some (EndOfList e)) = ClosesIn g end_array input at depth e
+GoesOnInArray g input at entered depth None =
     ((c : ℕ) → ElementBegins input at entered c → ⊥) × ((e : ℕ) → ClosesIn g end_array input at depth e → ⊥)
 
 -- another name of an object is due at c

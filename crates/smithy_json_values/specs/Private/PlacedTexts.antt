@@ -11,6 +11,6 @@ pub record StandsFrom (input : List ℕ) (a e at : ℕ) (raw : List ℕ) : Type 
 
 -- what is found of a raw string is what it means, in whatever input the string stands from this place on
 abbrev pub IsMeantFrom : {T : Type 0} → (List ℕ → T → List ℕ) → (List ℕ → T → Type 0) → (ℕ → ℕ → T → Type 0) → ℕ → List ℕ → Option T → Type 0
-IsMeantFrom bytes stands lies at raw found =
+IsMeantFrom bytes is_placed is_between at raw found =
     (input : List ℕ) (a e : ℕ) → StandsFrom input a e at raw
-    → (unescaped raw ≡ option_map (bytes input) found) × IfSome found (stands input) × IfSome found (lies a e)
+    → (unescaped raw ≡ option_map (bytes input) found) × IfSome found (is_placed input) × IfSome found (is_between a e)

@@ -6,7 +6,6 @@ use Rattle.smithy_declarations.specs.declared.place.Target.TheVariants.{Simple}
 use Rattle.smithy_shapes.specs.Site.{site_of, kind_at}
 use Rattle.smithy_declarations.specs.Value.{list, map, values_of, text, bytes, boolean}
 use Rattle.smithy_schema.specs.Reading.{Cursor, depth}
-use Rattle.smithy_schema.specs.Consuming.{reader}
 use Rattle.smithy_schema.proofs.ReadContainers.{itself}
 use Rattle.smithy_schema.proofs.ReadLists.{begin_list, list_contains}
 use Rattle.smithy_schema.proofs.ReadMaps.{begin_map, map_contains}
@@ -28,8 +27,8 @@ pub read_attribute_value-returns-in_err-open_struct-clause-reads : goal.read_att
 read_attribute_value-returns-in_err-open_struct-clause-reads g t c =
     let d = g.D.ShapeDeserializer in
     let s0 = d.settings c.args.source.now in
-    let w = d.wire s0 in
-    let max = d.max_depth s0 in
+    let w = (d.reading s0).wire in
+    let max = (d.reading s0).max_depth in
     let laws = g.met.D.ShapeDeserializer.lawful s0 in
     let outer = site_of c.args.schema.now in
     let p = err_from_is_err_and c.from_residual.result c.from_residual.ensures.1 in
@@ -43,8 +42,8 @@ pub read_attribute_value-returns-in_err-member-clause-reads : goal.read_attribut
 read_attribute_value-returns-in_err-member-clause-reads g t c =
     let d = g.D.ShapeDeserializer in
     let s0 = d.settings c.args.source.now in
-    let w = d.wire s0 in
-    let max = d.max_depth s0 in
+    let w = (d.reading s0).wire in
+    let max = (d.reading s0).max_depth in
     let laws = g.met.D.ShapeDeserializer.lawful s0 in
     let outer = site_of c.args.schema.now in
     let kind = attribute_union outer c.requires.place in
@@ -56,8 +55,8 @@ pub read_attribute_value-returns-in_default : goal.read_attribute_value-returns-
 read_attribute_value-returns-in_default g t c =
     let d = g.D.ShapeDeserializer in
     let s0 = d.settings c.args.source.now in
-    let w = d.wire s0 in
-    let max = d.max_depth s0 in
+    let w = (d.reading s0).wire in
+    let max = (d.reading s0).max_depth in
     let laws = g.met.D.ShapeDeserializer.lawful s0 in
     let outer = site_of c.args.schema.now in
     let kind = attribute_union outer c.requires.place in
@@ -72,15 +71,15 @@ pub read_attribute_value-read_variant-requires : goal.read_attribute_value-read_
 read_attribute_value-read_variant-requires g t c κs within =
     let d = g.D.ShapeDeserializer in
     let s0 = d.settings c.args.source.now in
-    let w = d.wire s0 in
-    let max = d.max_depth s0 in
+    let w = (d.reading s0).wire in
+    let max = (d.reading s0).max_depth in
     let laws = g.met.D.ShapeDeserializer.lawful s0 in
     let outer = site_of c.args.schema.now in
     let kind = attribute_union outer c.requires.place in
     let half = begin_union w w max laws laws (itself w) _ _ _ _ kind c.in_ok-open_struct.ensures.opens.ok in
     let step = rw (c.in-Member.is, c.open_struct.ensures.same) at (c.in_ok-member.ensures.goes_on.ok half.due) in
     let same = c.next_member.ensures.same ∙ c.open_struct.ensures.same in
-    let most : d.max_depth (d.settings c.next_member.new.self) ≡ max = ap d.max_depth same in
+    let most : (d.reading (d.settings c.next_member.new.self)).max_depth ≡ max = ap (λ s. (d.reading s).max_depth) same in
     let level : depth (d.state c.next_member.new.self) ≡ suc (depth (d.state c.args.source.now)) = ap length (step.2.outer ∙ half.outer) in
     let shallow = half.shallow in
     (omega (arith, most, level, shallow, c.decreases), (search rules, (step.2.due, (outer, step.1, c.requires.place, step.4))))
@@ -89,8 +88,8 @@ pub read_attribute_value-returns-in_err-value-clause-reads : goal.read_attribute
 read_attribute_value-returns-in_err-value-clause-reads g t c =
     let d = g.D.ShapeDeserializer in
     let s0 = d.settings c.args.source.now in
-    let w = d.wire s0 in
-    let max = d.max_depth s0 in
+    let w = (d.reading s0).wire in
+    let max = (d.reading s0).max_depth in
     let laws = g.met.D.ShapeDeserializer.lawful s0 in
     let outer = site_of c.args.schema.now in
     let kind = attribute_union outer c.requires.place in
@@ -103,8 +102,8 @@ pub read_attribute_value-next_member-requires-2 : goal.read_attribute_value-next
 read_attribute_value-next_member-requires-2 g t c =
     let d = g.D.ShapeDeserializer in
     let s0 = d.settings c.args.source.now in
-    let w = d.wire s0 in
-    let max = d.max_depth s0 in
+    let w = (d.reading s0).wire in
+    let max = (d.reading s0).max_depth in
     let laws = g.met.D.ShapeDeserializer.lawful s0 in
     let outer = site_of c.args.schema.now in
     let kind = attribute_union outer c.requires.place in
@@ -119,8 +118,8 @@ pub read_attribute_value-returns-in_err-next_member-clause-reads : goal.read_att
 read_attribute_value-returns-in_err-next_member-clause-reads g t c =
     let d = g.D.ShapeDeserializer in
     let s0 = d.settings c.args.source.now in
-    let w = d.wire s0 in
-    let max = d.max_depth s0 in
+    let w = (d.reading s0).wire in
+    let max = (d.reading s0).max_depth in
     let laws = g.met.D.ShapeDeserializer.lawful s0 in
     let outer = site_of c.args.schema.now in
     let kind = attribute_union outer c.requires.place in
@@ -136,8 +135,8 @@ pub read_attribute_value-returns-in_default-2 : goal.read_attribute_value-return
 read_attribute_value-returns-in_default-2 g t c =
     let d = g.D.ShapeDeserializer in
     let s0 = d.settings c.args.source.now in
-    let w = d.wire s0 in
-    let max = d.max_depth s0 in
+    let w = (d.reading s0).wire in
+    let max = (d.reading s0).max_depth in
     let laws = g.met.D.ShapeDeserializer.lawful s0 in
     let outer = site_of c.args.schema.now in
     let kind = attribute_union outer c.requires.place in
@@ -156,8 +155,8 @@ pub read_attribute_value-returns-clause-reads : goal.read_attribute_value-return
 read_attribute_value-returns-clause-reads g t c =
     let d = g.D.ShapeDeserializer in
     let s0 = d.settings c.args.source.now in
-    let w = d.wire s0 in
-    let max = d.max_depth s0 in
+    let w = (d.reading s0).wire in
+    let max = (d.reading s0).max_depth in
     let laws = g.met.D.ShapeDeserializer.lawful s0 in
     let outer = site_of c.args.schema.now in
     let kind = attribute_union outer c.requires.place in
@@ -173,7 +172,7 @@ pub read_variant-returns-in_err-read_string-clause-reads : goal.read_variant-ret
 read_variant-returns-in_err-read_string-clause-reads g t c =
     let d = g.D.ShapeDeserializer in
     let s0 = d.settings c.args.source.now in
-    let r = reader (d.wire s0) (d.lifted s0) (d.tells_without_limits s0) (d.max_depth s0) in
+    let r = d.reading s0 in
     let member = site_of c.args.member.now in
     let index : member.view.index ≡ Some 0 = search rules in
     let v = variant_at member 0 c.requires.place index in
@@ -184,7 +183,7 @@ pub read_variant-returns-then-eq-clause-reads : goal.read_variant-returns-then-e
 read_variant-returns-then-eq-clause-reads g t c =
     let d = g.D.ShapeDeserializer in
     let s0 = d.settings c.args.source.now in
-    let r = reader (d.wire s0) (d.lifted s0) (d.tells_without_limits s0) (d.max_depth s0) in
+    let r = d.reading s0 in
     let member = site_of c.args.member.now in
     let index : member.view.index ≡ Some 0 = search rules in
     let v = variant_at member 0 c.requires.place index in
@@ -194,7 +193,7 @@ pub read_variant-returns-in_err-read_string-2-clause-reads : goal.read_variant-r
 read_variant-returns-in_err-read_string-2-clause-reads g t c =
     let d = g.D.ShapeDeserializer in
     let s0 = d.settings c.args.source.now in
-    let r = reader (d.wire s0) (d.lifted s0) (d.tells_without_limits s0) (d.max_depth s0) in
+    let r = d.reading s0 in
     let member = site_of c.args.member.now in
     let index : member.view.index ≡ Some 1 = search rules in
     let v = variant_at member 1 c.requires.place index in
@@ -205,7 +204,7 @@ pub read_variant-returns-then-eq-2-clause-reads : goal.read_variant-returns-then
 read_variant-returns-then-eq-2-clause-reads g t c =
     let d = g.D.ShapeDeserializer in
     let s0 = d.settings c.args.source.now in
-    let r = reader (d.wire s0) (d.lifted s0) (d.tells_without_limits s0) (d.max_depth s0) in
+    let r = d.reading s0 in
     let member = site_of c.args.member.now in
     let index : member.view.index ≡ Some 1 = search rules in
     let v = variant_at member 1 c.requires.place index in
@@ -215,7 +214,7 @@ pub read_variant-returns-in_err-read_blob-clause-reads : goal.read_variant-retur
 read_variant-returns-in_err-read_blob-clause-reads g t c =
     let d = g.D.ShapeDeserializer in
     let s0 = d.settings c.args.source.now in
-    let r = reader (d.wire s0) (d.lifted s0) (d.tells_without_limits s0) (d.max_depth s0) in
+    let r = d.reading s0 in
     let member = site_of c.args.member.now in
     let index : member.view.index ≡ Some 2 = search rules in
     let v = variant_at member 2 c.requires.place index in
@@ -226,7 +225,7 @@ pub read_variant-returns-then-eq-3-clause-reads : goal.read_variant-returns-then
 read_variant-returns-then-eq-3-clause-reads g t c =
     let d = g.D.ShapeDeserializer in
     let s0 = d.settings c.args.source.now in
-    let r = reader (d.wire s0) (d.lifted s0) (d.tells_without_limits s0) (d.max_depth s0) in
+    let r = d.reading s0 in
     let member = site_of c.args.member.now in
     let index : member.view.index ≡ Some 2 = search rules in
     let v = variant_at member 2 c.requires.place index in
@@ -236,7 +235,7 @@ pub read_variant-returns-in_err-read_boolean-clause-reads : goal.read_variant-re
 read_variant-returns-in_err-read_boolean-clause-reads g t c =
     let d = g.D.ShapeDeserializer in
     let s0 = d.settings c.args.source.now in
-    let r = reader (d.wire s0) (d.lifted s0) (d.tells_without_limits s0) (d.max_depth s0) in
+    let r = d.reading s0 in
     let member = site_of c.args.member.now in
     let index : member.view.index ≡ Some 3 = search rules in
     let v = variant_at member 3 c.requires.place index in
@@ -247,7 +246,7 @@ pub read_variant-returns-then-eq-4-clause-reads : goal.read_variant-returns-then
 read_variant-returns-then-eq-4-clause-reads g t c =
     let d = g.D.ShapeDeserializer in
     let s0 = d.settings c.args.source.now in
-    let r = reader (d.wire s0) (d.lifted s0) (d.tells_without_limits s0) (d.max_depth s0) in
+    let r = d.reading s0 in
     let member = site_of c.args.member.now in
     let index : member.view.index ≡ Some 3 = search rules in
     let v = variant_at member 3 c.requires.place index in
@@ -257,7 +256,7 @@ pub read_variant-returns-in_err-read_boolean-2-clause-reads : goal.read_variant-
 read_variant-returns-in_err-read_boolean-2-clause-reads g t c =
     let d = g.D.ShapeDeserializer in
     let s0 = d.settings c.args.source.now in
-    let r = reader (d.wire s0) (d.lifted s0) (d.tells_without_limits s0) (d.max_depth s0) in
+    let r = d.reading s0 in
     let member = site_of c.args.member.now in
     let index : member.view.index ≡ Some 4 = search rules in
     let v = variant_at member 4 c.requires.place index in
@@ -268,7 +267,7 @@ pub read_variant-returns-then-eq-5-clause-reads : goal.read_variant-returns-then
 read_variant-returns-then-eq-5-clause-reads g t c =
     let d = g.D.ShapeDeserializer in
     let s0 = d.settings c.args.source.now in
-    let r = reader (d.wire s0) (d.lifted s0) (d.tells_without_limits s0) (d.max_depth s0) in
+    let r = d.reading s0 in
     let member = site_of c.args.member.now in
     let index : member.view.index ≡ Some 4 = search rules in
     let v = variant_at member 4 c.requires.place index in
@@ -278,7 +277,7 @@ pub read_variant-read_attributes-requires : goal.read_variant-read_attributes-re
 read_variant-read_attributes-requires g t c κs within =
     let d = g.D.ShapeDeserializer in
     let s0 = d.settings c.args.source.now in
-    let r = reader (d.wire s0) (d.lifted s0) (d.tells_without_limits s0) (d.max_depth s0) in
+    let r = d.reading s0 in
     let member = site_of c.args.member.now in
     let index : member.view.index ≡ Some 5 = search rules in
     let v = variant_at member 5 c.requires.place index in
@@ -288,28 +287,28 @@ pub read_variant-returns-in_err-read_attributes-clause-reads : goal.read_variant
 read_variant-returns-in_err-read_attributes-clause-reads g t c =
     let d = g.D.ShapeDeserializer in
     let s0 = d.settings c.args.source.now in
-    let r = reader (d.wire s0) (d.lifted s0) (d.tells_without_limits s0) (d.max_depth s0) in
+    let r = d.reading s0 in
     let member = site_of c.args.member.now in
     let index : member.view.index ≡ Some 5 = search rules in
     let v = variant_at member 5 c.requires.place index in
     let p = err_from_is_err_and c.from_residual-in_err-read_attributes.result c.from_residual-in_err-read_attributes.ensures.1 in
-    rw (p.1, p.2) (inner_fails (λ m. map (attribute_entries m.entries)) attribute_value (d.wire s0) _ _ member _ c.in_err-read_attributes.ensures.reads)
+    rw (p.1, p.2) (inner_fails (λ m. map (attribute_entries m.entries)) attribute_value (d.reading s0).wire _ _ member _ c.in_err-read_attributes.ensures.reads)
 
 pub read_variant-returns-then-eq-6-clause-reads : goal.read_variant-returns-then-eq-6-clause-reads
 read_variant-returns-then-eq-6-clause-reads g t c =
     let d = g.D.ShapeDeserializer in
     let s0 = d.settings c.args.source.now in
-    let r = reader (d.wire s0) (d.lifted s0) (d.tells_without_limits s0) (d.max_depth s0) in
+    let r = d.reading s0 in
     let member = site_of c.args.member.now in
     let index : member.view.index ≡ Some 5 = search rules in
     let v = variant_at member 5 c.requires.place index in
-    inner_variant (λ m. map (attribute_entries m.entries)) attribute_value (d.wire s0) _ _ member 5 _ (views.M c.in_ok-read_attributes.field-0) index c.in_ok-read_attributes.ensures.reads (view-M c.in_ok-read_attributes.field-0)
+    inner_variant (λ m. map (attribute_entries m.entries)) attribute_value (d.reading s0).wire _ _ member 5 _ (views.M c.in_ok-read_attributes.field-0) index c.in_ok-read_attributes.ensures.reads (view-M c.in_ok-read_attributes.field-0)
 
 pub read_variant-read_attribute_list-requires : goal.read_variant-read_attribute_list-requires
 read_variant-read_attribute_list-requires g t c κs within =
     let d = g.D.ShapeDeserializer in
     let s0 = d.settings c.args.source.now in
-    let r = reader (d.wire s0) (d.lifted s0) (d.tells_without_limits s0) (d.max_depth s0) in
+    let r = d.reading s0 in
     let member = site_of c.args.member.now in
     let not_0 : member.view.index ≢ Some 0 = search rules in
     let not_1 : member.view.index ≢ Some 1 = search rules in
@@ -324,16 +323,16 @@ pub read_variant-returns-in_err-read_attribute_list-clause-reads : goal.read_var
 read_variant-returns-in_err-read_attribute_list-clause-reads g t c =
     let d = g.D.ShapeDeserializer in
     let s0 = d.settings c.args.source.now in
-    let r = reader (d.wire s0) (d.lifted s0) (d.tells_without_limits s0) (d.max_depth s0) in
+    let r = d.reading s0 in
     let member = site_of c.args.member.now in
     let p = err_from_is_err_and c.from_residual-in_err-read_attribute_list.result c.from_residual-in_err-read_attribute_list.ensures.1 in
-    rw (p.1, p.2) (inner_fails (λ v. list (values_of (attribute_values v.items))) attribute_value (d.wire s0) _ _ member _ c.in_err-read_attribute_list.ensures.reads)
+    rw (p.1, p.2) (inner_fails (λ v. list (values_of (attribute_values v.items))) attribute_value (d.reading s0).wire _ _ member _ c.in_err-read_attribute_list.ensures.reads)
 
 pub read_variant-returns-clause-reads : goal.read_variant-returns-clause-reads
 read_variant-returns-clause-reads g t c =
     let d = g.D.ShapeDeserializer in
     let s0 = d.settings c.args.source.now in
-    let r = reader (d.wire s0) (d.lifted s0) (d.tells_without_limits s0) (d.max_depth s0) in
+    let r = d.reading s0 in
     let member = site_of c.args.member.now in
     let not_0 : member.view.index ≢ Some 0 = search rules in
     let not_1 : member.view.index ≢ Some 1 = search rules in
@@ -342,7 +341,7 @@ read_variant-returns-clause-reads g t c =
     let not_4 : member.view.index ≢ Some 4 = search rules in
     let not_5 : member.view.index ≢ Some 5 = search rules in
     let index = last_variant member c.requires.place (not_5, (not_4, (not_3, (not_2, (not_1, (not_0, tt)))))) in
-    inner_variant (λ v. list (values_of (attribute_values v.items))) attribute_value (d.wire s0) _ _ member 6 _ (views.L c.in_ok-read_attribute_list.field-0) index c.in_ok-read_attribute_list.ensures.reads (view-L c.in_ok-read_attribute_list.field-0)
+    inner_variant (λ v. list (values_of (attribute_values v.items))) attribute_value (d.reading s0).wire _ _ member 6 _ (views.L c.in_ok-read_attribute_list.field-0) index c.in_ok-read_attribute_list.ensures.reads (view-L c.in_ok-read_attribute_list.field-0)
 
 pub read_attributes-unreachable-unreachable : goal.read_attributes-unreachable-unreachable
 read_attributes-unreachable-unreachable g t c =
@@ -356,8 +355,8 @@ pub read_attributes-returns-in_err-open_map-clause-reads : goal.read_attributes-
 read_attributes-returns-in_err-open_map-clause-reads g t c =
     let d = g.D.ShapeDeserializer in
     let s0 = d.settings c.args.source.now in
-    let w = d.wire s0 in
-    let max = d.max_depth s0 in
+    let w = (d.reading s0).wire in
+    let max = (d.reading s0).max_depth in
     let laws = g.met.D.ShapeDeserializer.lawful s0 in
     let outer = site_of c.args.schema.now in
     let p = err_from_is_err_and c.from_residual.result c.from_residual.ensures.1 in
@@ -367,8 +366,8 @@ pub read_attributes-loop-entries-init : goal.read_attributes-loop-entries-init
 read_attributes-loop-entries-init g t c =
     let d = g.D.ShapeDeserializer in
     let s0 = d.settings c.args.source.now in
-    let w = d.wire s0 in
-    let max = d.max_depth s0 in
+    let w = (d.reading s0).wire in
+    let max = (d.reading s0).max_depth in
     let laws = g.met.D.ShapeDeserializer.lawful s0 in
     let outer = site_of c.args.schema.now in
     let kind = entries_map outer c.requires.place in
@@ -383,8 +382,8 @@ pub read_attributes-returns-in_err-key-clause-reads : goal.read_attributes-retur
 read_attributes-returns-in_err-key-clause-reads g t c =
     let d = g.D.ShapeDeserializer in
     let s0 = d.settings c.args.source.now in
-    let w = d.wire s0 in
-    let max = d.max_depth s0 in
+    let w = (d.reading s0).wire in
+    let max = (d.reading s0).max_depth in
     let laws = g.met.D.ShapeDeserializer.lawful s0 in
     let outer = site_of c.args.schema.now in
     let kind = entries_map outer c.requires.place in
@@ -399,8 +398,8 @@ pub read_attributes-read_attribute_value-requires : goal.read_attributes-read_at
 read_attributes-read_attribute_value-requires g t c κs within =
     let d = g.D.ShapeDeserializer in
     let s0 = d.settings c.args.source.now in
-    let w = d.wire s0 in
-    let max = d.max_depth s0 in
+    let w = (d.reading s0).wire in
+    let max = (d.reading s0).max_depth in
     let laws = g.met.D.ShapeDeserializer.lawful s0 in
     let outer = site_of c.args.schema.now in
     let kind = entries_map outer c.requires.place in
@@ -409,7 +408,7 @@ read_attributes-read_attribute_value-requires g t c κs within =
     let kept = c.loop-entries.invariant.same in
     let step = rw (c.in-Some-2.is, kept) at (c.in_ok-key.ensures.goes_on.ok half.due c.args.schema.now.shapes.now c.args.schema.now.place kind) in
     let same = c.next_key.ensures.same ∙ kept in
-    let most : d.max_depth (d.settings c.next_key.new.self) ≡ max = ap d.max_depth same in
+    let most : (d.reading (d.settings c.next_key.new.self)).max_depth ≡ max = ap (λ s. (d.reading s).max_depth) same in
     let level : depth (d.state c.next_key.new.self) ≡ suc (depth (d.state c.args.source.now)) = ap length (step.outer ∙ half.outer) in
     let shallow = half.shallow in
     (omega (arith, most, level, shallow, c.decreases), (search rules, (step.due, inside.1)))
@@ -418,8 +417,8 @@ pub read_attributes-returns-in_err-value-clause-reads : goal.read_attributes-ret
 read_attributes-returns-in_err-value-clause-reads g t c =
     let d = g.D.ShapeDeserializer in
     let s0 = d.settings c.args.source.now in
-    let w = d.wire s0 in
-    let max = d.max_depth s0 in
+    let w = (d.reading s0).wire in
+    let max = (d.reading s0).max_depth in
     let laws = g.met.D.ShapeDeserializer.lawful s0 in
     let outer = site_of c.args.schema.now in
     let kind = entries_map outer c.requires.place in
@@ -433,7 +432,7 @@ read_attributes-returns-in_err-value-clause-reads g t c =
 pub read_attributes-returns-in-Err-clause-reads : goal.read_attributes-returns-in-Err-clause-reads
 read_attributes-returns-in-Err-clause-reads g t c =
     let d = g.D.ShapeDeserializer in
-    let w = d.wire (d.settings c.args.source.now) in
+    let w = (d.reading (d.settings c.args.source.now)).wire in
     let sound = was_read _ _ c.in_ok-open_map.ensures.opens.conduct.failed in
     rw c.in-Err.ensures.err (unkept w (λ m. map (attribute_entries m.entries)) (site_of c.args.schema.now) _ _ sound (ap (λ (x : Cursor). x.failed) c.fail.ensures.fails))
 
@@ -441,8 +440,8 @@ pub read_attributes-loop-entries-preserved : goal.read_attributes-loop-entries-p
 read_attributes-loop-entries-preserved g t c =
     let d = g.D.ShapeDeserializer in
     let s0 = d.settings c.args.source.now in
-    let w = d.wire s0 in
-    let max = d.max_depth s0 in
+    let w = (d.reading s0).wire in
+    let max = (d.reading s0).max_depth in
     let laws = g.met.D.ShapeDeserializer.lawful s0 in
     let outer = site_of c.args.schema.now in
     let kind = entries_map outer c.requires.place in
@@ -460,8 +459,8 @@ pub read_attributes-returns-clause-reads : goal.read_attributes-returns-clause-r
 read_attributes-returns-clause-reads g t c =
     let d = g.D.ShapeDeserializer in
     let s0 = d.settings c.args.source.now in
-    let w = d.wire s0 in
-    let max = d.max_depth s0 in
+    let w = (d.reading s0).wire in
+    let max = (d.reading s0).max_depth in
     let laws = g.met.D.ShapeDeserializer.lawful s0 in
     let outer = site_of c.args.schema.now in
     let kind = entries_map outer c.requires.place in
@@ -475,8 +474,8 @@ pub read_attributes-loop-entries-smaller : goal.read_attributes-loop-entries-sma
 read_attributes-loop-entries-smaller g t c =
     let d = g.D.ShapeDeserializer in
     let s0 = d.settings c.args.source.now in
-    let w = d.wire s0 in
-    let max = d.max_depth s0 in
+    let w = (d.reading s0).wire in
+    let max = (d.reading s0).max_depth in
     let laws = g.met.D.ShapeDeserializer.lawful s0 in
     let outer = site_of c.args.schema.now in
     let kind = entries_map outer c.requires.place in
@@ -500,8 +499,8 @@ pub read_attribute_list-returns-in_err-open_list-clause-reads : goal.read_attrib
 read_attribute_list-returns-in_err-open_list-clause-reads g t c =
     let d = g.D.ShapeDeserializer in
     let s0 = d.settings c.args.source.now in
-    let w = d.wire s0 in
-    let max = d.max_depth s0 in
+    let w = (d.reading s0).wire in
+    let max = (d.reading s0).max_depth in
     let laws = g.met.D.ShapeDeserializer.lawful s0 in
     let outer = site_of c.args.schema.now in
     let p = err_from_is_err_and c.from_residual.result c.from_residual.ensures.1 in
@@ -511,8 +510,8 @@ pub read_attribute_list-loop-values-init : goal.read_attribute_list-loop-values-
 read_attribute_list-loop-values-init g t c =
     let d = g.D.ShapeDeserializer in
     let s0 = d.settings c.args.source.now in
-    let w = d.wire s0 in
-    let max = d.max_depth s0 in
+    let w = (d.reading s0).wire in
+    let max = (d.reading s0).max_depth in
     let laws = g.met.D.ShapeDeserializer.lawful s0 in
     let outer = site_of c.args.schema.now in
     let kind = elements_list outer c.requires.place in
@@ -527,8 +526,8 @@ pub read_attribute_list-returns-in_err-next_element-clause-reads : goal.read_att
 read_attribute_list-returns-in_err-next_element-clause-reads g t c =
     let d = g.D.ShapeDeserializer in
     let s0 = d.settings c.args.source.now in
-    let w = d.wire s0 in
-    let max = d.max_depth s0 in
+    let w = (d.reading s0).wire in
+    let max = (d.reading s0).max_depth in
     let laws = g.met.D.ShapeDeserializer.lawful s0 in
     let outer = site_of c.args.schema.now in
     let kind = elements_list outer c.requires.place in
@@ -543,8 +542,8 @@ pub read_attribute_list-read_attribute_value-requires : goal.read_attribute_list
 read_attribute_list-read_attribute_value-requires g t c κs within =
     let d = g.D.ShapeDeserializer in
     let s0 = d.settings c.args.source.now in
-    let w = d.wire s0 in
-    let max = d.max_depth s0 in
+    let w = (d.reading s0).wire in
+    let max = (d.reading s0).max_depth in
     let laws = g.met.D.ShapeDeserializer.lawful s0 in
     let outer = site_of c.args.schema.now in
     let kind = elements_list outer c.requires.place in
@@ -553,7 +552,7 @@ read_attribute_list-read_attribute_value-requires g t c κs within =
     let kept = c.loop-values.invariant.same in
     let step = rw (c.if-branch.true, kept) at (c.in_ok-next_element.ensures.goes_on.ok half.due c.args.schema.now.shapes.now c.args.schema.now.place kind) in
     let same = c.next_element.ensures.same ∙ kept in
-    let most : d.max_depth (d.settings c.next_element.new.self) ≡ max = ap d.max_depth same in
+    let most : (d.reading (d.settings c.next_element.new.self)).max_depth ≡ max = ap (λ s. (d.reading s).max_depth) same in
     let level : depth (d.state c.next_element.new.self) ≡ suc (depth (d.state c.args.source.now)) = ap length (step.outer ∙ half.outer) in
     let shallow = half.shallow in
     (omega (arith, most, level, shallow, c.decreases), (search rules, (step.due, inside.1)))
@@ -562,8 +561,8 @@ pub read_attribute_list-returns-in_err-value-clause-reads : goal.read_attribute_
 read_attribute_list-returns-in_err-value-clause-reads g t c =
     let d = g.D.ShapeDeserializer in
     let s0 = d.settings c.args.source.now in
-    let w = d.wire s0 in
-    let max = d.max_depth s0 in
+    let w = (d.reading s0).wire in
+    let max = (d.reading s0).max_depth in
     let laws = g.met.D.ShapeDeserializer.lawful s0 in
     let outer = site_of c.args.schema.now in
     let kind = elements_list outer c.requires.place in
@@ -577,7 +576,7 @@ read_attribute_list-returns-in_err-value-clause-reads g t c =
 pub read_attribute_list-returns-in-Err-clause-reads : goal.read_attribute_list-returns-in-Err-clause-reads
 read_attribute_list-returns-in-Err-clause-reads g t c =
     let d = g.D.ShapeDeserializer in
-    let w = d.wire (d.settings c.args.source.now) in
+    let w = (d.reading (d.settings c.args.source.now)).wire in
     let sound = was_read _ _ c.in_ok-open_list.ensures.opens.conduct.failed in
     rw c.from.ensures (unkept w (λ v. list (values_of (attribute_values v.items))) (site_of c.args.schema.now) _ _ sound (ap (λ (x : Cursor). x.failed) c.fail.ensures.fails))
 
@@ -585,8 +584,8 @@ pub read_attribute_list-loop-values-preserved : goal.read_attribute_list-loop-va
 read_attribute_list-loop-values-preserved g t c =
     let d = g.D.ShapeDeserializer in
     let s0 = d.settings c.args.source.now in
-    let w = d.wire s0 in
-    let max = d.max_depth s0 in
+    let w = (d.reading s0).wire in
+    let max = (d.reading s0).max_depth in
     let laws = g.met.D.ShapeDeserializer.lawful s0 in
     let outer = site_of c.args.schema.now in
     let kind = elements_list outer c.requires.place in
@@ -604,8 +603,8 @@ pub read_attribute_list-returns-clause-reads : goal.read_attribute_list-returns-
 read_attribute_list-returns-clause-reads g t c =
     let d = g.D.ShapeDeserializer in
     let s0 = d.settings c.args.source.now in
-    let w = d.wire s0 in
-    let max = d.max_depth s0 in
+    let w = (d.reading s0).wire in
+    let max = (d.reading s0).max_depth in
     let laws = g.met.D.ShapeDeserializer.lawful s0 in
     let outer = site_of c.args.schema.now in
     let kind = elements_list outer c.requires.place in
@@ -619,8 +618,8 @@ pub read_attribute_list-loop-values-smaller : goal.read_attribute_list-loop-valu
 read_attribute_list-loop-values-smaller g t c =
     let d = g.D.ShapeDeserializer in
     let s0 = d.settings c.args.source.now in
-    let w = d.wire s0 in
-    let max = d.max_depth s0 in
+    let w = (d.reading s0).wire in
+    let max = (d.reading s0).max_depth in
     let laws = g.met.D.ShapeDeserializer.lawful s0 in
     let outer = site_of c.args.schema.now in
     let kind = elements_list outer c.requires.place in

@@ -1,6 +1,5 @@
 use Rattle.std.proofs.Common.{refl}
 use Rattle.std.proofs.lemmas.Result.{err_from_is_err_and}
-use Rattle.smithy_schema.specs.Consuming.{reader}
 use Rattle.smithy_shapes.specs.Site.{site_of, kind_at}
 use Rattle.smithy_schema.proofs.ReadContainers.{structure_has_members}
 use Rattle.smithy_schema.proofs.ReadFields.{has_structure}
@@ -24,5 +23,5 @@ returns-in_err-read_struct-clause-reads g c =
     let d = g.D.ShapeDeserializer in
     let s = d.settings c.args.source.now in
     rw (p.1, p.2)
-    (structure_fails put_item_fields (reader (d.wire s) (d.lifted s) (d.tells_without_limits s) (d.max_depth s)) (site_of c.args.schema.now) (g.met.D.ShapeDeserializer.lawful s) (has_structure _ _ c.requires.place.members)
+    (structure_fails put_item_fields (d.reading s) (site_of c.args.schema.now) (g.met.D.ShapeDeserializer.lawful s) (has_structure _ _ c.requires.place.members)
     _ _ _ _ c.in_err-read_struct.field-0.0 c.in_err-read_struct.ensures.reads.consumes c.in_err-read_struct.ensures.reads.fails)

@@ -1,7 +1,6 @@
 use Rattle.std.proofs.Common.{refl, sym}
 use Rattle.std.proofs.lemmas.Result.{err_from_is_err_and}
 use Rattle.smithy_shapes.specs.Site.{site_of}
-use Rattle.smithy_schema.specs.Consuming.{reader}
 use Rattle.smithy_schema.proofs.ReadElements.{all_read, not_read, no_memory_for_it, through_items}
 use Rattle.smithy_schema.proofs.elements.read_elements.Goals as goal
 
@@ -16,7 +15,7 @@ returns-in_err-read_list-clause-read g c =
     let p = err_from_is_err_and c.from_residual.result c.from_residual.ensures.1 in
     let d = g.D.ShapeDeserializer in
     let o = d.settings c.args.source.now in
-    let r = reader (d.wire o) (d.lifted o) (d.tells_without_limits o) (d.max_depth o) in
+    let r = d.reading o in
     let outer = site_of c.args.schema.now in
     let inner = site_of c.in-Some.element in
     rw (p.1, p.2)
@@ -28,7 +27,7 @@ pub returns-clause-read : goal.returns-clause-read
 returns-clause-read g c =
     let d = g.D.ShapeDeserializer in
     let o = d.settings c.args.source.now in
-    let r = reader (d.wire o) (d.lifted o) (d.tells_without_limits o) (d.max_depth o) in
+    let r = d.reading o in
     let outer = site_of c.args.schema.now in
     let inner = site_of c.in-Some.element in
     all_read g.T.ReadScalar.kind g.T.ReadScalar.scalar r outer inner (g.met.D.ShapeDeserializer.lawful o) (sym c.in-Some.ensures) c.read_list.new.consumer.items.items _ _

@@ -107,10 +107,10 @@ pub read_tree-returns-in_ok-read_long-in-Long-clause-adds : goal.read_tree-retur
 read_tree-returns-in_ok-read_long-in-Long-clause-adds g t c = (g.P.Trees.keeps_lawfully.itself _ _ c.requires.sound, c.whole-in-Long.ensures.stands c.args.trees.now)
 
 pub read_tree-text-requires : goal.read_tree-text-requires
-read_tree-text-requires g t c = record { stands = (_, c.requires.sound, c.in_ok-take_text-in-String.ensures.stands) }
+read_tree-text-requires g t c = record { stands = (_, c.requires.sound, c.in_ok-take_text-in-String.ensures.placed) }
 
 pub read_tree-bytes-requires : goal.read_tree-bytes-requires
-read_tree-bytes-requires g t c = record { stands = (_, c.requires.sound, c.in_ok-take_bytes-in-Blob.ensures.stands) }
+read_tree-bytes-requires g t c = record { stands = (_, c.requires.sound, c.in_ok-take_bytes-in-Blob.ensures.placed) }
 
 -- structures
 pub read_structure-returns-in_err-open_struct-clause-reads : goal.read_structure-returns-in_err-open_struct-clause-reads

@@ -1,6 +1,5 @@
 use Rattle.std.proofs.Common.{◌≡◌, [], rules, refl, sym, ◌∙◌, subst}
 use Rattle.std.proofs.lemmas.Result.{err_from_is_err_and}
-use Rattle.smithy_schema.specs.Consuming.{reader}
 use Rattle.smithy_shapes.specs.Site.{site_of}
 use Rattle.smithy_shapes.specs.Lemmas.Options.{same_some}
 use Rattle.sts_client.specs.Shapes.{IsTag}
@@ -15,7 +14,7 @@ pub returns-clause-reads : goal.returns-clause-reads
 returns-clause-reads g c =
     let d = g.D.ShapeDeserializer in
     let s = d.settings c.args.source.now in
-    let r = reader (d.wire s) (d.lifted s) (d.tells_without_limits s) (d.max_depth s) in
+    let r = d.reading s in
     let outer = site_of c.args.schema.now in
     let inner = site_of c.in-Some.shape in
     let fresh : c.new.result.items ≡ [] = search rules in
@@ -31,7 +30,7 @@ returns-in_err-read_list-clause-reads g c =
     let p = err_from_is_err_and c.from_residual.result c.from_residual.ensures.1 in
     let d = g.D.ShapeDeserializer in
     let s = d.settings c.args.source.now in
-    let r = reader (d.wire s) (d.lifted s) (d.tells_without_limits s) (d.max_depth s) in
+    let r = d.reading s in
     let outer = site_of c.args.schema.now in
     let inner = site_of c.in-Some.shape in
     let fresh : c.new.result.items ≡ [] = search rules in

@@ -50,4 +50,4 @@ pub returns-clause-rests : goal.returns-clause-rests
 returns-clause-rests g c =
     let d = g.D.ShapeDeserializer in
     let s0 = d.settings c.args.source.now in
-    inr (taken (d.wire s0) (g.met.D.ShapeDeserializer.lawful s0) (λ m. map (attribute_entries m.entries)) (site_of c.in-Some.schema.now) _ _ c.in_ok-read_attributes.field-0 c.in_ok-read_attributes.ensures.reads)
+    inr (taken (d.reading s0).wire (g.met.D.ShapeDeserializer.lawful s0) (λ m. map (attribute_entries m.entries)) (site_of c.in-Some.schema.now) _ _ c.in_ok-read_attributes.field-0 c.in_ok-read_attributes.ensures.reads)

@@ -18,16 +18,14 @@ returns-clause-read c =
     reads_bytes (reading_settings_of c.args.self.now) (cursor_of c.args.self.now) (site_of c.args._schema.now) was.0 was.1 within cow_slice_items _ c.bytes_piece_at-found.result c.take_found.result
     found.found take.taken
 
-pub returns-clause-borrowed : goal.returns-clause-borrowed
-returns-clause-borrowed c =
+pub returns-clause-borrows : goal.returns-clause-borrows
+returns-clause-borrows c =
     let same : c.ready.new.self ≡ c.args.self.now.walk = c.in_ok-ready.ensures.ok in
     let found = rw (c.end_depth.ensures, same) at c.bytes_piece_at-found.ensures in
     let take = rw same at c.take_found.ensures in
-    found_is (cursor_of c.args.self.now) _ c.take_found.result (λ x. BorrowsBytes (cursor_of c.args.self.now).input (cursor_of c.args.self.now).at (IsBorrowedSlice x)) c.bytes_piece_at-found.result found.borrowed take.taken
-
-pub returns-clause-memory : goal.returns-clause-memory
-returns-clause-memory c =
-    let same : c.ready.new.self ≡ c.args.self.now.walk = c.in_ok-ready.ensures.ok in
-    let found = rw (c.end_depth.ensures, same) at c.bytes_piece_at-found.ensures in
-    let take = rw same at c.take_found.ensures in
-    memory_wanted (cursor_of c.args.self.now) _ c.take_found.result (BeginsIndefinite 2 (drop (cursor_of c.args.self.now).at (cursor_of c.args.self.now).input)) c.bytes_piece_at-found.result found.memory take.taken
+    record {
+      borrowed =
+          found_is (cursor_of c.args.self.now) _ c.take_found.result (λ x. BorrowsBytes (cursor_of c.args.self.now).input (cursor_of c.args.self.now).at (IsBorrowedSlice x)) c.bytes_piece_at-found.result found.borrowed take.taken;
+      memory =
+          memory_wanted (cursor_of c.args.self.now) _ c.take_found.result (BeginsIndefinite 2 (drop (cursor_of c.args.self.now).at (cursor_of c.args.self.now).input)) c.bytes_piece_at-found.result found.memory take.taken;
+    }

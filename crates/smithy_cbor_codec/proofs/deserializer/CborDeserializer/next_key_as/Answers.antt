@@ -24,18 +24,18 @@ returns-in-Ok-clause-goes_on g c =
     let ahead = key_ahead old.input old.at due text value (mark_with c.in-Ok-Some-Pair.due) key in
     let gone = c.go_on.ensures.gone ∙ ap (λ f. gone_on_to old value f) c.frame.ensures in
     let means = c.in-Ok.ensures old.input old.at found.borrowed (key_text old.input old.at due text value (mark_with c.in-Ok-Some-Pair.due) key) in
-    map_goes_on _ _ _ (g.K.TextView.bytes_of old.input) old c.if-self-2.false new _
+    map_goes_on _ _ _ (g.K.TextPiece.bytes_of old.input) old c.if-self-2.false new _
     (goes_ahead _ old new _ value c.if-self.false (ap (λ x. x.at) c.go_on.ensures.gone) (ap (λ x. x.input) c.go_on.ensures.gone) (omega (arith, ahead)) key.1.1.0)
-    (λ t p map. entry_steps (reading_settings_of c.args.self.now) old t p map new (g.K.TextView.bytes_of old.input c.in-Ok.key) value c.in-Ok-Some-Pair.due c.requires.within c.if-self.false gone (rw means.0 key))
+    (λ t p map. entry_steps (reading_settings_of c.args.self.now) old t p map new (g.K.TextPiece.bytes_of old.input c.in-Ok.key) value c.in-Ok-Some-Pair.due c.requires.within c.if-self.false gone (rw means.0 key))
 
-pub returns-in-Ok-clause-stands : goal.returns-in-Ok-clause-stands
-returns-in-Ok-clause-stands g c =
+pub returns-in-Ok-clause-placed : goal.returns-in-Ok-clause-placed
+returns-in-Ok-clause-placed g c =
     let found = rw (c.in-Ok-Some-Pair.field-0-is, c.in-Ok-Some-Pair.field-0-0-is) at c.in-Ok-Some-Pair.ensures in
     let old = cursor_of c.args.self.now in
     (c.in-Ok.ensures old.input old.at found.borrowed (key_text old.input old.at (mark_with old.inner.mark.due) _ c.in-Ok-Some-Pair.value (mark_with c.in-Ok-Some-Pair.due) found.found)).1
 
-pub returns-in-Ok-clause-lies : goal.returns-in-Ok-clause-lies
-returns-in-Ok-clause-lies g c =
+pub returns-in-Ok-clause-between : goal.returns-in-Ok-clause-between
+returns-in-Ok-clause-between g c =
     let found = rw (c.in-Ok-Some-Pair.field-0-is, c.in-Ok-Some-Pair.field-0-0-is) at c.in-Ok-Some-Pair.ensures in
     let old = cursor_of c.args.self.now in
     let at : (walk_cursor c.go_on.new.self).at ≡ c.in-Ok-Some-Pair.value = ap (λ x. x.at) c.go_on.ensures.gone in
@@ -49,7 +49,7 @@ returns-then-may_leave_at-clause-goes_on g c =
     let end = c.in-Ok-Some-End.end in
     let within : c.args.self.now.walk.position ≤ length c.args.self.now.walk.input.now = search rules in
     let place = over_place old.input old.at (mark_with old.inner.mark.due) end within over in
-    map_goes_on _ _ _ (g.K.TextView.bytes_of old.input) old c.if-self-2.false new _ (goes_ahead _ old new _ end c.if-self.false c.leave.ensures.at c.leave.ensures.input place.0 place.1)
+    map_goes_on _ _ _ (g.K.TextPiece.bytes_of old.input) old c.if-self-2.false new _ (goes_ahead _ old new _ end c.if-self.false c.leave.ensures.at c.leave.ensures.input place.0 place.1)
     (λ t p map. map_left (reading_settings_of c.args.self.now) old t p map new end
     c.leave.ensures.input c.leave.ensures.at c.leave.ensures.outer c.leave.ensures.due c.leave.ensures.failed c.if-self.false over (c.may_leave_at.ensures.0 c.if-may_leave_at.true))
 
@@ -60,7 +60,7 @@ returns-else-may_leave_at-clause-goes_on g c =
     let o = reading_settings_of c.args.self.now in
     let within : c.args.self.now.walk.position ≤ length c.args.self.now.walk.input.now = search rules in
     let shut = stays_inside c.may_leave_at.result _ c.may_leave_at.ensures c.if-may_leave_at.false in
-    map_refuses _ _ _ (g.K.TextView.bytes_of old.input) old c.if-self-2.false _ _ c.refuse-in-Ok-Some-End.ensures.error c.refuse-in-Ok-Some-End.ensures.stays within c.if-self.false
+    map_refuses _ _ _ (g.K.TextPiece.bytes_of old.input) old c.if-self-2.false _ _ c.refuse-in-Ok-Some-End.ensures.error c.refuse-in-Ok-Some-End.ensures.stays within c.if-self.false
     (λ t p map. map_shut o old t p map c.in-Ok-Some-End.end over shut) (λ t p map. map_shut (without_limits o) old t p map c.in-Ok-Some-End.end over shut)
 
 pub returns-in-Ok-None-clause-goes_on : goal.returns-in-Ok-None-clause-goes_on
@@ -69,7 +69,7 @@ returns-in-Ok-None-clause-goes_on g c =
     let old = cursor_of c.args.self.now in
     let o = reading_settings_of c.args.self.now in
     let within : c.args.self.now.walk.position ≤ length c.args.self.now.walk.input.now = search rules in
-    map_refuses _ _ _ (g.K.TextView.bytes_of old.input) old c.if-self-2.false _ _ c.refuse-in-Ok-None.ensures.error c.refuse-in-Ok-None.ensures.stays within c.if-self.false
+    map_refuses _ _ _ (g.K.TextPiece.bytes_of old.input) old c.if-self-2.false _ _ c.refuse-in-Ok-None.ensures.error c.refuse-in-Ok-None.ensures.stays within c.if-self.false
     (λ t p map. map_stuck o old t p map missing) (λ t p map. map_stuck (without_limits o) old t p map missing)
 
 pub of_text-requires : goal.of_text-requires

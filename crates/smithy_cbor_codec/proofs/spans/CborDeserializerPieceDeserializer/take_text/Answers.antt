@@ -19,34 +19,31 @@ returns-clause-read c =
     reads_text (reading_settings_of c.args.self.now) old (site_of c.args._schema.now) was.0 was.1 within (text_bytes old.input) _ c.text_span_at-found.result c.take_found.result
     found.found take.taken
 
-pub returns-clause-stands : goal.returns-clause-stands
-returns-clause-stands c =
+pub returns-clause-placed : goal.returns-clause-placed
+returns-clause-placed c =
     let same : c.ready.new.self ≡ c.args.self.now.walk = c.in_ok-ready.ensures.ok in
     let found = rw (c.end_depth.ensures, same) at c.text_span_at-found.ensures in
     let take = rw same at c.take_found.ensures in
     let old = cursor_of c.args.self.now in
     found_is old _ c.take_found.result (λ t end. IsTextPlaced old.input t) c.text_span_at-found.result found.placed take.taken
 
-pub returns-clause-lies : goal.returns-clause-lies
-returns-clause-lies c =
+pub returns-clause-between : goal.returns-clause-between
+returns-clause-between c =
     let same : c.ready.new.self ≡ c.args.self.now.walk = c.in_ok-ready.ensures.ok in
     let found = rw (c.end_depth.ensures, same) at c.text_span_at-found.ensures in
     let take = rw same at c.take_found.ensures in
     let old = cursor_of c.args.self.now in
     found_is old _ c.take_found.result (λ x end. IsTextBetween old.at end x) c.text_span_at-found.result found.between take.taken
 
-pub returns-clause-borrowed : goal.returns-clause-borrowed
-returns-clause-borrowed c =
+pub returns-clause-borrows : goal.returns-clause-borrows
+returns-clause-borrows c =
     let same : c.ready.new.self ≡ c.args.self.now.walk = c.in_ok-ready.ensures.ok in
     let found = rw (c.end_depth.ensures, same) at c.text_span_at-found.ensures in
     let take = rw same at c.take_found.ensures in
     let old = cursor_of c.args.self.now in
-    found_is old _ c.take_found.result (λ x. BorrowsText old.input old.at (NamesTextPlace x)) c.text_span_at-found.result found.borrowed take.taken
-
-pub returns-clause-memory : goal.returns-clause-memory
-returns-clause-memory c =
-    let same : c.ready.new.self ≡ c.args.self.now.walk = c.in_ok-ready.ensures.ok in
-    let found = rw (c.end_depth.ensures, same) at c.text_span_at-found.ensures in
-    let take = rw same at c.take_found.ensures in
-    let old = cursor_of c.args.self.now in
-    memory_wanted old _ c.take_found.result (BeginsIndefinite 3 (drop old.at old.input)) c.text_span_at-found.result found.memory take.taken
+    record {
+      borrowed =
+          found_is old _ c.take_found.result (λ x. BorrowsText old.input old.at (NamesTextPlace x)) c.text_span_at-found.result found.borrowed take.taken;
+      memory =
+          memory_wanted old _ c.take_found.result (BeginsIndefinite 3 (drop old.at old.input)) c.text_span_at-found.result found.memory take.taken;
+    }

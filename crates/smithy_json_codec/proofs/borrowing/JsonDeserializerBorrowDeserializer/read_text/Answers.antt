@@ -20,20 +20,17 @@ returns-clause-read c =
     (reads_text (reading_settings_of c.args.self.now) (cursor_of c.args.self.now) (site_of c.args._schema.now) was.0 was.1 within cow_str_bytes _ c.text_piece_at-found.result c.take_found-answer.result
     found.found taken)
 
-pub returns-clause-borrowed : goal.returns-clause-borrowed
-returns-clause-borrowed c =
+pub returns-clause-borrows : goal.returns-clause-borrows
+returns-clause-borrows c =
     let same : c.ready.new.self ≡ c.args.self.now.walk = c.in_ok-ready.ensures.ok in
     let found = rw same at c.text_piece_at-found.ensures in
     let taken = rw same at c.take_found-answer.ensures.taken in
     let old = cursor_of c.args.self.now in
-    rw c.told.ensures
-    (if_told _ c.take_found-answer.result _ (takes_so (λ t. BorrowsText (json_grammar (reading_settings_of c.args.self.now)) old.input old.at (IsBorrowedStr t)) old _ c.text_piece_at-found.result c.take_found-answer.result found.borrowed taken))
-
-pub returns-clause-memory : goal.returns-clause-memory
-returns-clause-memory c = λ is.
-    let same : c.ready.new.self ≡ c.args.self.now.walk = c.in_ok-ready.ensures.ok in
-    let found = rw same at c.text_piece_at-found.ensures in
-    let taken = rw same at c.take_found-answer.ensures.taken in
-    let old = cursor_of c.args.self.now in
-    memory_wanted old _ c.take_found-answer.result (LiesEscaped (json_grammar (reading_settings_of c.args.self.now)) old.input old.at) c.text_piece_at-found.result found.memory taken
-    (memory_told _ c.take_found-answer.result (sym c.told.ensures ∙ is))
+    record {
+      borrowed =
+          rw c.told.ensures
+          (if_told _ c.take_found-answer.result _ (takes_so (λ t. BorrowsText (json_grammar (reading_settings_of c.args.self.now)) old.input old.at (IsBorrowedStr t)) old _ c.text_piece_at-found.result c.take_found-answer.result found.borrowed taken));
+      memory = λ is.
+          memory_wanted old _ c.take_found-answer.result (LiesEscaped (json_grammar (reading_settings_of c.args.self.now)) old.input old.at) c.text_piece_at-found.result found.memory taken
+          (memory_told _ c.take_found-answer.result (sym c.told.ensures ∙ is));
+    }

@@ -18,7 +18,7 @@ returns-then-self-clause-goes_on g c =
     let old = cursor_of c.args.self.now in
     let inside : c.args.self.now.walk.position ≤ length c.args.self.now.walk.input.now = search rules in
     rw c.refuse.ensures.error
-    (failed_before o (g.K.TextView.bytes_of old.input) old (walk_cursor c.refuse.new.self) inside c.refuse.ensures.stays c.if-self.true)
+    (failed_before o (g.K.TextPiece.bytes_of old.input) old (walk_cursor c.refuse.new.self) inside c.refuse.ensures.stays c.if-self.true)
 
 pub returns-then-self-2-clause-goes_on : goal.returns-then-self-2-clause-goes_on
 returns-then-self-2-clause-goes_on g c =
@@ -26,7 +26,7 @@ returns-then-self-2-clause-goes_on g c =
     let old = cursor_of c.args.self.now in
     let inside : c.args.self.now.walk.position ≤ length c.args.self.now.walk.input.now = search rules in
     rw c.refuse-then-self-2.ensures.error
-    (value_is_due o (g.K.TextView.bytes_of old.input) old (walk_cursor c.refuse-then-self-2.new.self) inside c.refuse-then-self-2.ensures.stays c.if-self.false c.if-self-2.true)
+    (value_is_due o (g.K.TextPiece.bytes_of old.input) old (walk_cursor c.refuse-then-self-2.new.self) inside c.refuse-then-self-2.ensures.stays c.if-self.false c.if-self-2.true)
 
 pub returns-in-Ok-Some-clause-goes_on : goal.returns-in-Ok-Some-clause-goes_on
 returns-in-Ok-Some-clause-goes_on g c =
@@ -37,21 +37,21 @@ returns-in-Ok-Some-clause-goes_on g c =
     let name = c.in-Some-Member.name in
     let means = c.in-Ok-Some.ensures old.input old.at name.end stands.stands in
     let ahead = names_ahead old.input old.inner.mark.entered old.at name.raw.now name.end stands.names.0 in
-    finds_key o (g.K.TextView.bytes_of old.input) old new c.if-self.false c.if-self-2.false
+    finds_key o (g.K.TextPiece.bytes_of old.input) old new c.if-self.false c.if-self-2.false
     name.end (ap (λ n. n.at) c.go_on.ensures.gone) (ap (λ n. n.input) c.go_on.ensures.gone) (omega (arith, ahead)) stands.names.0.2.1 c.in-Ok-Some.key
-    (λ t p map. entry_steps o old new t p name.raw.now (g.K.TextView.bytes_of old.input c.in-Ok-Some.key) name.end map c.requires.within c.if-self.false
+    (λ t p map. entry_steps o old new t p name.raw.now (g.K.TextPiece.bytes_of old.input c.in-Ok-Some.key) name.end map c.requires.within c.if-self.false
     (c.go_on.ensures.gone ∙ ap (gone_on_to old name.end) c.frame.ensures) stands.names
     (rw c.in-Ok-Some.field-0-is at means.0))
 
-pub returns-in-Ok-Some-clause-stands : goal.returns-in-Ok-Some-clause-stands
-returns-in-Ok-Some-clause-stands g c =
+pub returns-in-Ok-Some-clause-placed : goal.returns-in-Ok-Some-clause-placed
+returns-in-Ok-Some-clause-placed g c =
     let stands = rw c.in-Some-Member.field-0-is at c.in-Some-Member.ensures in
     let old = cursor_of c.args.self.now in
     let means = c.in-Ok-Some.ensures old.input old.at c.in-Some-Member.name.end stands.stands in
     rw c.in-Ok-Some.field-0-is at means.1
 
-pub returns-in-Ok-Some-clause-lies : goal.returns-in-Ok-Some-clause-lies
-returns-in-Ok-Some-clause-lies g c =
+pub returns-in-Ok-Some-clause-between : goal.returns-in-Ok-Some-clause-between
+returns-in-Ok-Some-clause-between g c =
     let stands = rw c.in-Some-Member.field-0-is at c.in-Some-Member.ensures in
     let old = cursor_of c.args.self.now in
     let means = c.in-Ok-Some.ensures old.input old.at c.in-Some-Member.name.end stands.stands in
@@ -69,7 +69,7 @@ returns-in-Ok-None-clause-goes_on g c =
     let means = c.in-Ok-None.ensures old.input old.at name.end stands.stands in
     let wordless = rw c.in-Ok-None.field-0-is at means.0 in
     rw c.refuse-in-Ok-None.ensures.error
-    (finds_none o (g.K.TextView.bytes_of old.input) old (walk_cursor c.refuse-in-Ok-None.new.self) inside c.refuse-in-Ok-None.ensures.stays c.if-self.false (λ undue t p map. (
+    (finds_none o (g.K.TextPiece.bytes_of old.input) old (walk_cursor c.refuse-in-Ok-None.new.self) inside c.refuse-in-Ok-None.ensures.stays c.if-self.false (λ undue t p map. (
       key_stuck o old t p name.raw.now name.end map stands.names wordless,
       key_stuck (without_limits o) old t p name.raw.now name.end map stands.names wordless,
     )))
@@ -80,7 +80,7 @@ returns-in-Err-clause-goes_on g c =
     let old = cursor_of c.args.self.now in
     let inside : c.args.self.now.walk.position ≤ length c.args.self.now.walk.input.now = search rules in
     rw c.refuse-in-Err.ensures.error
-    (wants_memory o (g.K.TextView.bytes_of old.input) old (walk_cursor c.refuse-in-Err.new.self) inside c.refuse-in-Err.ensures.stays c.if-self.false)
+    (wants_memory o (g.K.TextPiece.bytes_of old.input) old (walk_cursor c.refuse-in-Err.new.self) inside c.refuse-in-Err.ensures.stays c.if-self.false)
 
 pub returns-in-Some-End-clause-goes_on : goal.returns-in-Some-End-clause-goes_on
 returns-in-Some-End-clause-goes_on g c =
@@ -89,7 +89,7 @@ returns-in-Some-End-clause-goes_on g c =
     let old = cursor_of c.args.self.now in
     let new = walk_cursor c.leave.new.self in
     let left = c.leave.ensures in
-    finds_end o (g.K.TextView.bytes_of old.input) old new c.if-self.false c.if-self-2.false
+    finds_end o (g.K.TextPiece.bytes_of old.input) old new c.if-self.false c.if-self-2.false
     c.in-Some-End.end left.at left.input closes.0.0 closes.0.1
     (λ t p map. map_left o old new t p map c.if-self.false c.depth.result c.depth.ensures c.in-Some-End.end closes left.input left.at left.outer left.due left.failed)
 
@@ -99,7 +99,7 @@ returns-in-None-clause-goes_on g c =
     let old = cursor_of c.args.self.now in
     let inside : c.args.self.now.walk.position ≤ length c.args.self.now.walk.input.now = search rules in
     rw c.refuse-in-None.ensures.error
-    (finds_none o (g.K.TextView.bytes_of old.input) old (walk_cursor c.refuse-in-None.new.self) inside c.refuse-in-None.ensures.stays c.if-self.false (λ undue t p map. (
+    (finds_none o (g.K.TextPiece.bytes_of old.input) old (walk_cursor c.refuse-in-None.new.self) inside c.refuse-in-None.ensures.stays c.if-self.false (λ undue t p map. (
       map_stuck o old t p map c.depth.result c.depth.ensures c.in-None.ensures,
       map_stuck (without_limits o) old t p map c.depth.result c.depth.ensures c.in-None.ensures,
     )))

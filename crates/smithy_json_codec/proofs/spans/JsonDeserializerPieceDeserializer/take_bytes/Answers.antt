@@ -19,8 +19,8 @@ returns-clause-read c =
     (reads_bytes (reading_settings_of c.args.self.now) old (site_of c.args._schema.now) was.0 was.1 within (span_bytes old.input) _ c.bytes_span_at-found.result c.take_found-answer.result
     found.found taken)
 
-pub returns-clause-stands : goal.returns-clause-stands
-returns-clause-stands c =
+pub returns-clause-placed : goal.returns-clause-placed
+returns-clause-placed c =
     let same : c.ready.new.self ≡ c.args.self.now.walk = c.in_ok-ready.ensures.ok in
     let found = rw same at c.bytes_span_at-found.ensures in
     let taken = rw same at c.take_found-answer.ensures.taken in
@@ -28,8 +28,8 @@ returns-clause-stands c =
     rw c.told.ensures
     (if_told _ c.take_found-answer.result _ (takes_so (λ x e. IsPlaced old.input x) old _ c.bytes_span_at-found.result c.take_found-answer.result found.placed taken))
 
-pub returns-clause-lies : goal.returns-clause-lies
-returns-clause-lies c =
+pub returns-clause-between : goal.returns-clause-between
+returns-clause-between c =
     let same : c.ready.new.self ≡ c.args.self.now.walk = c.in_ok-ready.ensures.ok in
     let found = rw same at c.bytes_span_at-found.ensures in
     let taken = rw same at c.take_found-answer.ensures.taken in

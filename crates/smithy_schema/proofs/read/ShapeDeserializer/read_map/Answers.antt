@@ -1,7 +1,7 @@
 use Rattle.std.proofs.Common.{refl, ◌∙◌}
 use Rattle.std.proofs.lemmas.Result.{err_from_is_err_and}
 use Rattle.smithy_shapes.specs.Site.{site_of}
-use Rattle.smithy_schema.specs.Consuming.{reader, unopened, entered, refused, stopped, ended}
+use Rattle.smithy_schema.specs.Consuming.{unopened, entered, refused, stopped, ended}
 use Rattle.smithy_schema.proofs.ConsumingLemmas.{was_sound, was_due, opening_refused, entry_refused, began, went_on, onto_by, taken_whole, less_left, none_due}
 use Rattle.smithy_schema.proofs.read.ShapeDeserializer.read_map.Goals as goal
 
@@ -31,7 +31,7 @@ returns-in_err-key-clause-reads g c =
     rw (p.1, p.2, e.conduct.stays)
     (record {
       consumes = entered (was_sound _ _ c.in_ok-open_map.ensures.opens.conduct.failed) (was_due _ c.in_ok-open_map.ensures.opens.undue) c.in_ok-open_map.ensures.opens.ok (inside.along _ _ _ (refused
-          (rw inside.same at (entry_refused _ (reader (g.Self.ShapeDeserializer.wire (g.Self.ShapeDeserializer.settings c.loop-key.self)) (g.Self.ShapeDeserializer.lifted (g.Self.ShapeDeserializer.settings c.loop-key.self)) (g.Self.ShapeDeserializer.tells_without_limits (g.Self.ShapeDeserializer.settings c.loop-key.self)) (g.Self.ShapeDeserializer.max_depth (g.Self.ShapeDeserializer.settings c.loop-key.self))) (site_of c.args.schema.now) _ _ _ e.conduct e.narrow e.shallow e.unread (λ h due. e.refused h due _ _ place) (λ strict h due. e.none_without_limits strict h due _ _ place)))));
+          (rw inside.same at (entry_refused _ (g.Self.ShapeDeserializer.reading (g.Self.ShapeDeserializer.settings c.loop-key.self)) (site_of c.args.schema.now) _ _ _ e.conduct e.narrow e.shallow e.unread (λ h due. e.refused h due _ _ place) (λ strict h due. e.none_without_limits strict h due _ _ place)))));
       takes = tt;
       fails = refl;
     })

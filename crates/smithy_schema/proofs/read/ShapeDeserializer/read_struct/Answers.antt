@@ -1,7 +1,7 @@
 use Rattle.std.proofs.Common.{refl, ◌∙◌}
 use Rattle.std.proofs.lemmas.Result.{err_from_is_err_and}
 use Rattle.smithy_shapes.specs.Site.{site_of}
-use Rattle.smithy_schema.specs.Consuming.{reader, unopened, entered, refused, stopped, ended}
+use Rattle.smithy_schema.specs.Consuming.{unopened, entered, refused, stopped, ended}
 use Rattle.smithy_schema.proofs.ConsumingLemmas.{was_sound, was_due, opening_refused, member_refused, began, went_on, stepped, to_entry, to_end, onto_member, cleared_input, cleared_outer, taken_whole, less_behind}
 use Rattle.smithy_schema.proofs.read.ShapeDeserializer.read_struct.Goals as goal
 
@@ -35,7 +35,7 @@ returns-in_err-step-clause-reads g c =
     rw (p.1, p.2, e.conduct.stays)
     (record {
       consumes = entered (was_sound _ _ c.in_ok-open_struct.ensures.opens.conduct.failed) (was_due _ c.in_ok-open_struct.ensures.opens.undue) c.in_ok-open_struct.ensures.opens.ok (inside.along _ _ _ (refused
-          (rw inside.same at (member_refused (reader (d.wire s) (d.lifted s) (d.tells_without_limits s) (d.max_depth s)) (site_of c.args.schema.now) _ _ _ e))));
+          (rw inside.same at (member_refused (d.reading s) (site_of c.args.schema.now) _ _ _ e))));
       takes = tt;
       fails = refl;
     })
@@ -49,7 +49,7 @@ returns-in-Err-clause-reads g c =
     let d = g.Self.ShapeDeserializer in
     let inside = c.members.invariant.inside in
     let next = c.in_ok-step.ensures.goes_on in
-    let x = d.wire (d.settings c.members.self) in
+    let x = (d.reading (d.settings c.members.self)).wire in
     let outer = site_of c.args.schema.now in
     let found = stepped x (d.state c.members.self) (d.state c.next_member.new.self) outer c.in_ok-step.step next.ok next.unread in
     let goes = rw inside.same at (to_entry x (d.state c.members.self) (d.state c.next_member.new.self) outer c.in_ok-step.step _ c.in_default.not-End c.member.ensures found) in
@@ -68,8 +68,8 @@ members-smaller g c =
     let d = g.Self.ShapeDeserializer in
     let inside = c.members.invariant.inside in
     let next = c.in_ok-step.ensures.goes_on in
-    let w = d.wire (d.settings c.args.self.now) in
-    let x = d.wire (d.settings c.members.self) in
+    let w = (d.reading (d.settings c.args.self.now)).wire in
+    let x = (d.reading (d.settings c.members.self)).wire in
     let outer = site_of c.args.schema.now in
     let found = stepped x (d.state c.members.self) (d.state c.next_member.new.self) outer c.in_ok-step.step next.ok next.unread in
     let goes = rw inside.same at (to_entry x (d.state c.members.self) (d.state c.next_member.new.self) outer c.in_ok-step.step _ c.in_default.not-End c.member.ensures found) in
@@ -81,8 +81,8 @@ members-preserved g c =
     let d = g.Self.ShapeDeserializer in
     let inside = c.members.invariant.inside in
     let next = c.in_ok-step.ensures.goes_on in
-    let w = d.wire (d.settings c.args.self.now) in
-    let x = d.wire (d.settings c.members.self) in
+    let w = (d.reading (d.settings c.args.self.now)).wire in
+    let x = (d.reading (d.settings c.members.self)).wire in
     let outer = site_of c.args.schema.now in
     let found = stepped x (d.state c.members.self) (d.state c.next_member.new.self) outer c.in_ok-step.step next.ok next.unread in
     let goes = rw inside.same at (to_entry x (d.state c.members.self) (d.state c.next_member.new.self) outer c.in_ok-step.step _ c.in_default.not-End c.member.ensures found) in
@@ -98,10 +98,10 @@ returns-in-End-clause-reads g c =
     let d = g.Self.ShapeDeserializer in
     let inside = c.members.invariant.inside in
     let next = c.in_ok-step.ensures.goes_on in
-    let x = d.wire (d.settings c.members.self) in
+    let x = (d.reading (d.settings c.members.self)).wire in
     let outer = site_of c.args.schema.now in
     let found = stepped x (d.state c.members.self) (d.state c.next_member.new.self) outer c.in_ok-step.step next.ok next.unread in
-    let w = d.wire (d.settings c.args.self.now) in
+    let w = (d.reading (d.settings c.args.self.now)).wire in
     let end = rw inside.same at (to_end x _ _ outer (rw c.in-End.is at found)) in
     record {
       consumes = entered (was_sound _ _ c.in_ok-open_struct.ensures.opens.conduct.failed) (was_due _ c.in_ok-open_struct.ensures.opens.undue) c.in_ok-open_struct.ensures.opens.ok (inside.along _ _ _ (ended (rw inside.same at (to_end x _ _ outer (rw c.in-End.is at found)))));

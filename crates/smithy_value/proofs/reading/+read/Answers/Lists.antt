@@ -116,7 +116,7 @@ read_list-returns-in_err-item-clause-reads g t c =
     let same = c.loop-elements.invariant.same in
     let step = rw (c.if-branch.true, same) at (c.in_ok-next_element.ensures.goes_on.ok half.kept.due c.args.schema.now.shapes.now c.args.schema.now.place c.requires.place) in
     let place = element_place c.args.schema.now c.in-Some.element c.requires.place c.in-Some.ensures in
-    let no_null : IsNoNull (g.D.ShapeDeserializer.wire s0) (g.D.ShapeDeserializer.state c.next_element.new.self) (kind_of c.args.schema.now.shapes.now c.args.schema.now.place) = λ sparse. elim c.else-sparse.branch [
+    let no_null : IsNoNull (g.D.ShapeDeserializer.reading s0).wire (g.D.ShapeDeserializer.state c.next_element.new.self) (kind_of c.args.schema.now.shapes.now c.args.schema.now.place) = λ sparse. elim c.else-sparse.branch [
       | read_list-else-sparse-via-then-sparse+else-is_null w ↦ rw (c.next_element.ensures.same, same) at (sym w.is_null.ensures ∙ w.if-is_null.false)
       | read_list-else-sparse-via-else-sparse w ↦ absurd (let found : true ≡ false = sym (c.is_sparse-sparse.ensures.1 sparse) ∙ w.if-sparse.false in cc)
     ] in
@@ -150,7 +150,7 @@ read_list-loop-elements-preserved g t c =
     let same = c.loop-elements.invariant.same in
     let step = rw (c.if-branch.true, same) at (c.in_ok-next_element.ensures.goes_on.ok half.kept.due c.args.schema.now.shapes.now c.args.schema.now.place c.requires.place) in
     let place = element_place c.args.schema.now c.in-Some.element c.requires.place c.in-Some.ensures in
-    let no_null : IsNoNull (g.D.ShapeDeserializer.wire s0) (g.D.ShapeDeserializer.state c.next_element.new.self) (kind_of c.args.schema.now.shapes.now c.args.schema.now.place) = λ sparse. elim c.else-sparse.branch [
+    let no_null : IsNoNull (g.D.ShapeDeserializer.reading s0).wire (g.D.ShapeDeserializer.state c.next_element.new.self) (kind_of c.args.schema.now.shapes.now c.args.schema.now.place) = λ sparse. elim c.else-sparse.branch [
       | read_list-else-sparse-via-then-sparse+else-is_null w ↦ rw (c.next_element.ensures.same, same) at (sym w.is_null.ensures ∙ w.if-is_null.false)
       | read_list-else-sparse-via-else-sparse w ↦ absurd (let found : true ≡ false = sym (c.is_sparse-sparse.ensures.1 sparse) ∙ w.if-sparse.false in cc)
     ] in
@@ -201,7 +201,7 @@ read_list-loop-elements-smaller g t c =
     let same = c.loop-elements.invariant.same in
     let step = rw (c.if-branch.true, same) at (c.in_ok-next_element.ensures.goes_on.ok half.kept.due c.args.schema.now.shapes.now c.args.schema.now.place c.requires.place) in
     let place = element_place c.args.schema.now c.in-Some.element c.requires.place c.in-Some.ensures in
-    let no_null : IsNoNull (g.D.ShapeDeserializer.wire s0) (g.D.ShapeDeserializer.state c.next_element.new.self) (kind_of c.args.schema.now.shapes.now c.args.schema.now.place) = λ sparse. elim c.else-sparse.branch [
+    let no_null : IsNoNull (g.D.ShapeDeserializer.reading s0).wire (g.D.ShapeDeserializer.state c.next_element.new.self) (kind_of c.args.schema.now.shapes.now c.args.schema.now.place) = λ sparse. elim c.else-sparse.branch [
       | read_list-else-sparse-via-then-sparse+else-is_null w ↦ rw (c.next_element.ensures.same, same) at (sym w.is_null.ensures ∙ w.if-is_null.false)
       | read_list-else-sparse-via-else-sparse w ↦ absurd (let found : true ≡ false = sym (c.is_sparse-sparse.ensures.1 sparse) ∙ w.if-sparse.false in cc)
     ] in
@@ -231,7 +231,7 @@ read_list-read_tree-requires g t c κs within =
     let same = c.loop-elements.invariant.same in
     let step = rw (c.if-branch.true, same) at (c.in_ok-next_element.ensures.goes_on.ok half.kept.due c.args.schema.now.shapes.now c.args.schema.now.place c.requires.place) in
     let d = g.D.ShapeDeserializer in
-    let most : d.max_depth (d.settings c.next_element.new.self) ≡ d.max_depth (d.settings c.args.source.now) = ap d.max_depth (c.next_element.ensures.same ∙ same) in
+    let most : (d.reading (d.settings c.next_element.new.self)).max_depth ≡ (d.reading (d.settings c.args.source.now)).max_depth = ap (λ s. (d.reading s).max_depth) (c.next_element.ensures.same ∙ same) in
     let level : depth (d.state c.next_element.new.self) ≡ suc (depth (d.state c.args.source.now)) = ap length (step.outer ∙ half.kept.outer) in
     let shallow = half.kept.shallow in
     let sound = half_sound_at g.P.Trees.elements_grow_lawfully c.args.trees.now c.loop-elements.trees _ _ c.loop-elements.elements c.requires.sound c.loop-elements.invariant.begun (step.input ∙ half.reached.input) in

@@ -119,7 +119,7 @@ read_map-returns-in_err-value-clause-reads g t c =
     let same = c.loop-entries.invariant.same in
     let step = rw (c.in-Some-2.is, same) at (c.in_ok-key.ensures.goes_on.ok half.kept.due c.args.schema.now.shapes.now c.args.schema.now.place c.requires.place) in
     let place = value_place c.args.schema.now c.in-Some.inner c.requires.place c.in-Some.ensures in
-    let no_null : IsNoNull (g.D.ShapeDeserializer.wire s0) (g.D.ShapeDeserializer.state c.take_key.new.self) (kind_of c.args.schema.now.shapes.now c.args.schema.now.place) = λ sparse. elim c.else-sparse.branch [
+    let no_null : IsNoNull (g.D.ShapeDeserializer.reading s0).wire (g.D.ShapeDeserializer.state c.take_key.new.self) (kind_of c.args.schema.now.shapes.now c.args.schema.now.place) = λ sparse. elim c.else-sparse.branch [
       | read_map-else-sparse-via-then-sparse+else-is_null w ↦ rw (c.take_key.ensures.same, same) at (sym w.is_null.ensures ∙ w.if-is_null.false)
       | read_map-else-sparse-via-else-sparse w ↦ absurd (let found : true ≡ false = sym (c.is_sparse-sparse.ensures.1 sparse) ∙ w.if-sparse.false in cc)
     ] in
@@ -153,7 +153,7 @@ read_map-loop-entries-preserved g t c =
     let same = c.loop-entries.invariant.same in
     let step = rw (c.in-Some-2.is, same) at (c.in_ok-key.ensures.goes_on.ok half.kept.due c.args.schema.now.shapes.now c.args.schema.now.place c.requires.place) in
     let place = value_place c.args.schema.now c.in-Some.inner c.requires.place c.in-Some.ensures in
-    let no_null : IsNoNull (g.D.ShapeDeserializer.wire s0) (g.D.ShapeDeserializer.state c.take_key.new.self) (kind_of c.args.schema.now.shapes.now c.args.schema.now.place) = λ sparse. elim c.else-sparse.branch [
+    let no_null : IsNoNull (g.D.ShapeDeserializer.reading s0).wire (g.D.ShapeDeserializer.state c.take_key.new.self) (kind_of c.args.schema.now.shapes.now c.args.schema.now.place) = λ sparse. elim c.else-sparse.branch [
       | read_map-else-sparse-via-then-sparse+else-is_null w ↦ rw (c.take_key.ensures.same, same) at (sym w.is_null.ensures ∙ w.if-is_null.false)
       | read_map-else-sparse-via-else-sparse w ↦ absurd (let found : true ≡ false = sym (c.is_sparse-sparse.ensures.1 sparse) ∙ w.if-sparse.false in cc)
     ] in
@@ -205,7 +205,7 @@ read_map-loop-entries-smaller g t c =
     let same = c.loop-entries.invariant.same in
     let step = rw (c.in-Some-2.is, same) at (c.in_ok-key.ensures.goes_on.ok half.kept.due c.args.schema.now.shapes.now c.args.schema.now.place c.requires.place) in
     let place = value_place c.args.schema.now c.in-Some.inner c.requires.place c.in-Some.ensures in
-    let no_null : IsNoNull (g.D.ShapeDeserializer.wire s0) (g.D.ShapeDeserializer.state c.take_key.new.self) (kind_of c.args.schema.now.shapes.now c.args.schema.now.place) = λ sparse. elim c.else-sparse.branch [
+    let no_null : IsNoNull (g.D.ShapeDeserializer.reading s0).wire (g.D.ShapeDeserializer.state c.take_key.new.self) (kind_of c.args.schema.now.shapes.now c.args.schema.now.place) = λ sparse. elim c.else-sparse.branch [
       | read_map-else-sparse-via-then-sparse+else-is_null w ↦ rw (c.take_key.ensures.same, same) at (sym w.is_null.ensures ∙ w.if-is_null.false)
       | read_map-else-sparse-via-else-sparse w ↦ absurd (let found : true ≡ false = sym (c.is_sparse-sparse.ensures.1 sparse) ∙ w.if-sparse.false in cc)
     ] in
@@ -220,7 +220,7 @@ read_map-no_entries-entries-requires g t c =
 pub read_map-set_entry-requires-clause-key : goal.read_map-set_entry-requires-clause-key
 read_map-set_entry-requires-clause-key g t c =
     let half = c.loop-entries.invariant.half in
-    let stands = rw c.in-Some-2.is at c.in_ok-key.ensures.stands in
+    let stands = rw c.in-Some-2.is at c.in_ok-key.ensures.placed in
     (_, half_sound_at g.P.Trees.entries_grow_lawfully c.args.trees.now c.loop-entries.trees _ _ c.loop-entries.entries c.requires.sound c.loop-entries.invariant.begun half.reached.input, stands)
 
 pub read_map-set_entry-requires-clause-begun : goal.read_map-set_entry-requires-clause-begun
@@ -237,7 +237,7 @@ read_map-read_tree-requires g t c κs within =
     let same = c.loop-entries.invariant.same in
     let step = rw (c.in-Some-2.is, same) at (c.in_ok-key.ensures.goes_on.ok half.kept.due c.args.schema.now.shapes.now c.args.schema.now.place c.requires.place) in
     let d = g.D.ShapeDeserializer in
-    let most : d.max_depth (d.settings c.take_key.new.self) ≡ d.max_depth (d.settings c.args.source.now) = ap d.max_depth (c.take_key.ensures.same ∙ same) in
+    let most : (d.reading (d.settings c.take_key.new.self)).max_depth ≡ (d.reading (d.settings c.args.source.now)).max_depth = ap (λ s. (d.reading s).max_depth) (c.take_key.ensures.same ∙ same) in
     let level : depth (d.state c.take_key.new.self) ≡ suc (depth (d.state c.args.source.now)) = ap length (step.outer ∙ half.kept.outer) in
     let shallow = half.kept.shallow in
     let sound = half_sound_at g.P.Trees.entries_grow_lawfully c.args.trees.now c.loop-entries.trees _ _ c.loop-entries.entries c.requires.sound c.loop-entries.invariant.begun (step.input ∙ half.reached.input) in
@@ -246,7 +246,7 @@ read_map-read_tree-requires g t c κs within =
 pub read_map-set_entry-requires-else-sparse-clause-key : goal.read_map-set_entry-requires-else-sparse-clause-key
 read_map-set_entry-requires-else-sparse-clause-key g t c =
     let half = c.loop-entries.invariant.half in
-    let stands = rw c.in-Some-2.is at c.in_ok-key.ensures.stands in
+    let stands = rw c.in-Some-2.is at c.in_ok-key.ensures.placed in
     let grows = g.P.Trees.entries_grow_lawfully in
     let begun = grows.begun_still c.args.trees.now c.loop-entries.trees c.read_tree.new.trees c.loop-entries.entries c.loop-entries.invariant.begun c.in_ok-value.ensures.adds.0 in
     (_, half_sound_at grows c.args.trees.now c.read_tree.new.trees _ _ c.loop-entries.entries c.requires.sound begun half.reached.input, stands)

@@ -1,6 +1,5 @@
 use Rattle.std.proofs.Common.{refl}
 use Rattle.std.proofs.lemmas.Result.{err_from_is_err_and}
-use Rattle.smithy_schema.specs.Consuming.{reader}
 use Rattle.smithy_shapes.specs.Site.{site_of, kind_at}
 use Rattle.smithy_schema.proofs.ReadContainers.{structure_has_members}
 use Rattle.smithy_schema.proofs.ReadFields.{has_structure, fields_read, fields_refused}
@@ -23,7 +22,7 @@ returns-in_err-read_struct-clause-called g c =
     let site = site_of c.args.self.now.shape in
     rw (p.1, p.2) (
       broke (may_answer _ _ _ (fields_fail tag_fields _ site _ _ _ _ _ c.in_err-read_struct.ensures.reads.consumes c.in_err-read_struct.ensures.reads.fails))
-          (λ fault due. fields_refused tag_fields tag_members (reader (d.wire s) (d.lifted s) (d.tells_without_limits s) (d.max_depth s)) site (g.met.D.ShapeDeserializer.lawful s) c.args.self.now.is_tag
+          (λ fault due. fields_refused tag_fields tag_members (d.reading s) site (g.met.D.ShapeDeserializer.lawful s) c.args.self.now.is_tag
           _ _ _ _ _ c.in_err-read_struct.ensures.reads.consumes c.in_err-read_struct.field-0.0 refl fault due),
       refl,
     )
