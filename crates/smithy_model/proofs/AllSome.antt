@@ -1,11 +1,14 @@
 -- All of some options, one more at the end, and one that is missing.
-use Rattle.std.proofs.Common.{◌≡◌, ◌<◌, ◌+◌, ℕ, zero, suc, List, [], ◌∷◌, ◌++◌, length, map, take, get_or, Option, Some, None, option_map, refl, sym, ap, arith}
+use Rattle.std.proofs.Common.{◌≡◌, ◌<◌, ◌+◌, ℕ, zero, suc, List, [], ◌∷◌, ◌++◌, length, map, take, get_or, Option, Some, None, Ok, option_map, ◌∙◌, refl, sym, ap, arith}
 use Rattle.std.specs.Prelude.{Bool, true, false, ◌||◌}
 use Rattle.std.specs.List.{filter, list_any}
 use Rattle.std.specs.Option.{option_and_then}
 use Rattle.std.proofs.lemmas.List.Elements.{filter-append}
 use Rattle.std.proofs.lemmas.List.{take_more, map-append}
+use Rattle.smithy_model.specs.declared.fault.ModelFault.{ModelFault}
+use Rattle.smithy_model.specs.Objects.{Entry}
 use Rattle.smithy_model.specs.Members.{all_some}
+use Rattle.smithy_model.specs.Among.{AddsAmong}
 
 one_more : {A : Type 0} → (b : A) (r : Option (List A)) (o : Option A)
     → option_map (λ more. b ∷ more) (option_and_then (λ found_all. option_map (λ a. found_all ++ a ∷ []) o) r)
@@ -70,8 +73,16 @@ all_both (None ∷ os) ps xs ys is also = cc
 all_both (Some a ∷ os) ps xs ys is also = joined a (all_some os) (all_some (os ++ ps)) xs ys is (λ more same. all_both os ps more ys same also)
 
 -- one that counts was read
-pub among_one : {X A : Type 0} (p : X → Bool) (f : X → Option A) (x : X) (a : A) → p x ≡ true → f x ≡ Some a → all_some (map f (filter p (x ∷ []))) ≡ Some (a ∷ [])
+among_one : {X A : Type 0} (p : X → Bool) (f : X → Option A) (x : X) (a : A) → p x ≡ true → f x ≡ Some a → all_some (map f (filter p (x ∷ []))) ≡ Some (a ∷ [])
 among_one p f x a passes found = rw (passes, found) refl
+
+-- one that counts is added to the others
+pub one_added : {A W : Type 0} (p : Entry → Bool) (f : Entry → Option A) (Refuses : List Entry → ModelFault → Type 0) (v : W → A) (e : Entry) (w : W) (ws news : List W)
+    → p e ≡ true → f e ≡ Some (v w) → news ≡ ws ++ w ∷ [] → AddsAmong (λ es. all_some (map f (filter p es))) Refuses e (map v ws) (map v news) (Ok tt)
+one_added p f Refuses v e w ws news passes found is = record {
+  read = (v w ∷ [], among_one p f e (v w) passes found, ap (map v) is ∙ map-append v ws (w ∷ []));
+  refused = tt;
+}
 
 -- one more is read of those that count
 pub among_more : {W X A : Type 0} (p : X → Bool) (f : X → Option A) (v : W → X) (ws : List W) (i : ℕ) (w : W) (so_far more : List A) → i < length ws

@@ -1,9 +1,10 @@
 -- Elements of a list that are changed one after the other, and pairs of two lists.
-use Rattle.std.proofs.Common.{◌≡◌, ◌<◌, ◌≤◌, ◌+◌, ◌∙◌, ℕ, zero, suc, List, [], ◌∷◌, ◌++◌, length, map, take, set, get_or, refl, sym, ap, subst, arith}
+use Rattle.std.proofs.Common.{◌≡◌, ◌<◌, ◌≤◌, ◌+◌, ◌∙◌, ℕ, zero, suc, List, [], ◌∷◌, ◌++◌, Bor, Ok, Err, length, map, take, set, get_or, refl, sym, ap, subst, arith}
 use Rattle.std.specs.Prelude.{Bool}
 use Rattle.std.specs.List.{list_any, AllZip}
 use Rattle.std.proofs.lemmas.List.{take_more, map-append}
 use Rattle.smithy_model.specs.Faults.{IsMissing}
+use Rattle.smithy_model.specs.Linking.{LinksAll}
 use Rattle.smithy_model.proofs.AllSome.{any_at}
 
 -- so many have become what R asks of them, and the others are as they were
@@ -40,7 +41,7 @@ one_changed R v i olds news u new changed within is one =
     subst (λ n. AreChanged R v n olds (set news i new)) next (changed_behind R v i olds news u new changed within is one)
 
 -- in the end all are
-pub all_changed : {A B : Type 0} (R : B → B → Type 0) (v : A → B) (i : ℕ) (olds news : List A) → AreChanged R v i olds news → length olds ≤ i
+all_changed : {A B : Type 0} (R : B → B → Type 0) (v : A → B) (i : ℕ) (olds news : List A) → AreChanged R v i olds news → length olds ≤ i
     → AllZip R (map v olds) (map v news)
 all_changed R v zero [] news same enough = subst (λ ns. AllZip R [] (map v ns)) same tt
 all_changed R v zero (old ∷ olds) news same enough = absurd (omega (arith, enough))
@@ -58,12 +59,24 @@ still_there R v (suc i) (old ∷ olds) [] u changed within is = absurd changed
 still_there R v (suc i) (old ∷ olds) (y ∷ news) u changed within is = still_there R v i olds news u changed.1 (omega (arith, within)) is
 
 -- a target that the next one misses was missed at first
-pub missing_there : {A B : Type 0} (ids : List (List ℕ)) (test : List ℕ → B → Bool) (R : B → B → Type 0) (v : A → B) (i : ℕ) (olds news : List A) (u : A)
+missing_there : {A B : Type 0} (ids : List (List ℕ)) (test : List ℕ → B → Bool) (R : B → B → Type 0) (v : A → B) (i : ℕ) (olds news : List A) (u : A)
     (id : List ℕ) → AreChanged R v i olds news → i < length news → u ≡ get_or news i u → IsMissing ids (λ other. test other (v u)) id
     → IsMissing ids (λ other. list_any (test other) (map v olds)) id
 missing_there ids test R v i olds news u id changed within is one =
     let long = as_long R v i olds news changed in
     (any_at (test id) v olds i u (omega (arith, within, long)) (still_there R v i olds news u changed within is) one.0, one.1)
+
+-- all have their numbers
+pub all_linked : {A B : Type 0} (ids : List (List ℕ)) (R : List (List ℕ) → B → B → Type 0) (test : List ℕ → B → Bool) (v : A → B) (i : ℕ) (olds news : List A)
+    → AreChanged (R ids) v i olds news → length olds ≤ i → LinksAll ids R test (map v olds) (map v news) (Ok tt)
+all_linked ids R test v i olds news changed enough = record { linked = all_changed (R ids) v i olds news changed enough; refused = tt }
+
+-- one has a target that is missing
+pub one_missing : {A B : Type 0} {behind : List B} (ids : List (List ℕ)) (R : List (List ℕ) → B → B → Type 0) (test : List ℕ → B → Bool) (v : A → B) (i : ℕ) (olds news : List A) (u : A)
+    (id : Bor (List ℕ)) → AreChanged (R ids) v i olds news → i < length news → u ≡ get_or news i u
+    → IsMissing ids (λ other. test other (v u)) id.now → LinksAll ids R test (map v olds) behind (Err id)
+one_missing ids R test v i olds news u id changed within is one =
+    record { linked = tt; refused = missing_there ids test (R ids) v i olds news u id.now changed within is one }
 
 zip_more : {A B : Type 0} (R : A → B → Type 0) (xs : List A) (ys : List B) (x : A) (y : B) → AllZip R xs ys → R x y → AllZip R (xs ++ x ∷ []) (ys ++ y ∷ [])
 zip_more R [] [] x y all one = (one, tt)

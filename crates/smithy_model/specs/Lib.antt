@@ -14,3 +14,5 @@ pub mod Views
 -- words for private functions
 pub mod Mixing
 pub mod Placing
+pub mod Linking
+pub mod Among

@@ -1,15 +1,14 @@
 -- Members of shapes, as a model's text has them (Smithy 2.0, "JSON AST", "Aggregate types", and the traits of protocols).
-use Rattle.std.specs.Prelude.{ℕ, List, [], ◌∷◌, ◌||◌, Bool, false, Option, Some, None, option_map, option_and_then, unwrap_or, if◌then◌else◌, codes, bytes_eq, map as list_map}
-use Rattle.std.specs.Option.{option_map_or}
+use Rattle.std.specs.Prelude.{ℕ, List, [], ◌∷◌, ◌||◌, Bool, Option, Some, None, option_map, option_and_then, unwrap_or, if◌then◌else◌, codes, bytes_eq, map as list_map}
 use Rattle.json.specs.Json.{Json}
 use Rattle.json.specs.Find.{get}
-use Rattle.smithy_model.specs.Objects.{Entry, text_in, is_set, entries_in, is_no_object, trait_text, has_trait}
+use Rattle.smithy_model.specs.Objects.{Entry, text_in, has_text, is_set, entries_in, is_no_object, trait_text, has_trait}
 use Rattle.smithy_model.specs.Model.{Member}
 use Rattle.smithy_model.specs.Form.{Form, smithy, json_service, xml_service, ec2_service}
 
--- the part of a message that a service-2.json names
+-- a service-2.json binds the member to this part of a message
 abbrev pub has_location : List ℕ → Json → Bool
-has_location name spec = option_map_or (λ given. bytes_eq given name) (text_in (codes "location") spec) false
+has_location name spec = has_text (codes "location") name spec
 
 -- the member is bound to headers (Smithy 2.0, "HTTP bindings")
 abbrev pub is_in_headers : Form → Json → Bool
@@ -73,12 +72,7 @@ abbrev pub ec2_given : Form → Option (List ℕ) → Option (List ℕ)
 ec2_given ec2_service given = given
 ec2_given _ given = None
 
--- the structure names this member as its payload
-abbrev pub is_named_payload : Json → List ℕ → Bool
-is_named_payload outer name =
-    option_map_or (λ payload. bytes_eq payload name) (text_in (codes "payload") outer) false
-
--- a member of a service-2.json: none without a shape
+-- a member of a service-2.json, whose structure may name it as its payload: none without a shape
 abbrev pub service_member : Form → Json → List ℕ → Json → Option Member
 service_member form outer name spec = option_map (λ target. record {
   name = name;
@@ -92,7 +86,7 @@ service_member form outer name spec = option_map (λ target. record {
   in_headers = is_in_headers form spec;
   in_request_line = is_in_request_line form spec;
   in_status_line = is_in_status_line form spec;
-  is_payload = is_named_payload outer name;
+  is_payload = has_text (codes "payload") name outer;
 }) (text_in (codes "shape") spec)
 
 -- the member that is given so in a shape

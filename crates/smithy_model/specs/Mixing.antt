@@ -1,5 +1,5 @@
 -- Shapes whose mixins are taken in one after the other.
-use Rattle.std.specs.Prelude.{◌≡◌, ◌⊎◌, ◌≤◌, ℕ, ◌+◌, List, [], ◌∷◌, length, MatchBool, Bool, true, false, Some, if◌then◌else◌, slice_get}
+use Rattle.std.specs.Prelude.{◌≡◌, ◌⊎◌, ◌≤◌, ℕ, ◌+◌, List, [], ◌∷◌, length, MatchBool, Bool, true, false, Some, Result, OnOk, IfErr, if◌then◌else◌, slice_get}
 use Rattle.std.specs.List.{AllZip}
 use Rattle.smithy_model.specs.Model.{Shape}
 use Rattle.smithy_model.specs.declared.fault.ModelFault.{ModelFault}
@@ -67,3 +67,9 @@ RefusesHere shapes done (faults.BadMixin id) =
     MissesMixin (uses_of shapes) id.now ⊎ ((own : List Shape) → AreHalfMixed own shapes done → Disagrees own id.now)
 RefusesHere shapes done faults.NoMemory = Unit {0}
 RefusesHere shapes done _ = ⊥
+
+-- Mixins were taken in, one shape after the other, and ids and the mixins of each stayed; or one shape refuses.
+pub record TakesMixins {A : Type 0} (old new : List Shape) (before behind : List Bool) (result : Result A ModelFault) : Type 0 where
+  pub mixed : OnOk result (TakesIn old new before behind)
+  pub uses : OnOk result (uses_of new ≡ uses_of old)
+  pub refused : IfErr result (RefusesHere old before)

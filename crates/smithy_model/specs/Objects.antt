@@ -1,5 +1,6 @@
 -- Looking into JSON values. Names of equal members don't come: a text that has a name twice in an object is refused.
-use Rattle.std.specs.Prelude.{ℕ, List, [], ◌∷◌, ◌&&◌, Bool, false, Option, option_map, option_and_then, is_some, is_none, unwrap_or, codes}
+use Rattle.std.specs.Prelude.{ℕ, List, [], ◌∷◌, ◌&&◌, Bool, false, Option, option_map, option_and_then, is_some, is_none, unwrap_or, codes, bytes_eq}
+use Rattle.std.specs.Option.{option_map_or}
 use Rattle.json.specs.Json.{Json, Items, no_items, item, Members, no_members, member}
 use Rattle.json.specs.Find.{get, as_str, as_bool, as_array, as_object}
 
@@ -28,6 +29,10 @@ items value = option_map items_of (as_array value)
 -- the member of this name, where it is a text
 abbrev pub text_in : List ℕ → Json → Option (List ℕ)
 text_in name spec = option_and_then as_str (get name spec)
+
+-- the member of this name is this text
+abbrev pub has_text : List ℕ → List ℕ → Json → Bool
+has_text name wanted spec = option_map_or (λ given. bytes_eq given wanted) (text_in name spec) false
 
 -- there is a member of this name
 abbrev pub is_there : List ℕ → Json → Bool

@@ -1,10 +1,9 @@
 -- Which model a text is (Smithy 2.0, "JSON AST"; a service-2.json has the same parts under other names).
 use Rattle.std.specs.Prelude.{◌≡◌, ℕ, List, [], ◌++◌, true, slice_get, ◌||◌, ◌&&◌, not, Bool, false, Option, Some, None, option_and_then, unwrap_or, if◌then◌else◌, codes, bytes_eq, map as list_map}
 use Rattle.std.specs.List.{filter, list_any, AllZip}
-use Rattle.std.specs.Option.{option_map_or}
 use Rattle.json.specs.Json.{Json, document}
 use Rattle.json.specs.Strict.{HasUniqueKeys}
-use Rattle.smithy_model.specs.Objects.{Entry, text_in, is_there, entries_in, has_trait, inner_text}
+use Rattle.smithy_model.specs.Objects.{Entry, has_text, is_there, entries_in, has_trait, inner_text}
 use Rattle.smithy_model.specs.Model.{Member, Kind, structure, union, list, map, Shape, Reference, Operation, Model}
 use Rattle.smithy_model.specs.Form.{Form, smithy, json_service, xml_service, ec2_service}
 use Rattle.smithy_model.specs.Members.{all_some}
@@ -32,7 +31,7 @@ form_in root =
 
 -- the type of what stands under an id
 abbrev pub has_type : List ℕ → Json → Bool
-has_type type spec = option_map_or (λ given. bytes_eq given type) (text_in (codes "type") spec) false
+has_type type spec = has_text (codes "type") type spec
 
 -- a shape of values: in a Smithy model each entry of `shapes` but operations, services and resources
 abbrev pub is_of_values : Form → Json → Bool

@@ -15,9 +15,13 @@ abbrev pub references_in : List ℕ → List ℕ → Json → Option (List (List
 references_in name key spec =
     if is_no_array name spec then None else all_some (list_map (text_in key) (unwrap_or (items_in name spec) []))
 
--- what a value refers to by its member `key`; its number is given later
+-- a reference to the shape of this id; its number is given later
+abbrev pub reference_to : List ℕ → Reference
+reference_to id = record { target = id; number = 0 }
+
+-- what a value refers to by its member `key`
 abbrev pub reference_in : List ℕ → Json → Option Reference
-reference_in key spec = option_map (λ target. record { target = target; number = 0 }) (text_in key spec)
+reference_in key spec = option_map reference_to (text_in key spec)
 
 -- what the member of this name refers to, if there is one: none where it refers to nothing
 abbrev pub reference_if : List ℕ → List ℕ → Json → Option (Option Reference)
@@ -25,9 +29,7 @@ reference_if name key spec = option_map_or (λ value. option_map Some (reference
 
 -- what the errors of an operation refer to
 abbrev pub errors_in : List ℕ → Json → Option (List Reference)
-errors_in key spec =
-    if is_no_array (codes "errors") spec then None
-    else all_some (list_map (reference_in key) (unwrap_or (items_in (codes "errors") spec) []))
+errors_in key spec = option_map (list_map reference_to) (references_in (codes "errors") key spec)
 
 -- the member by which others refer to a shape
 abbrev pub reference_key : Form → List ℕ

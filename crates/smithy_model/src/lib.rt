@@ -19,7 +19,10 @@ mod protocol;
 mod reading;
 mod references;
 mod shapes;
+mod users;
 
 pub use fault::ModelFault;
 pub use model::{Entry, Kind, Member, Model, Operation, Reference, Shape};
+pub use numbers::place_of;
 pub use reading::read_model;
+pub use users::Users;

@@ -1,9 +1,8 @@
 //! The number of each member's target.
 ghost use Rattle.std.specs.Prelude.{map, OnOk, IfErr};
-ghost use Rattle.std.specs.List.{list_any, AllZip};
-ghost use Rattle.smithy_model.specs.Model as kept;
 ghost use Rattle.smithy_model.specs.Reading.{IsNumbered, IsShapeNumbered, AreTargetsNumbered, IsLinked};
-ghost use Rattle.smithy_model.specs.Faults.{IsMissing, is_target, has_target, is_target_in, RefusesLinks};
+ghost use Rattle.smithy_model.specs.Faults.{is_target, is_target_in, RefusesLinks};
+ghost use Rattle.smithy_model.specs.Linking.{Links, LinksAll, is_target_of};
 ghost use Rattle.smithy_model.specs.Views.{member_view, shape_view, model_view, numbers_view};
 
 use crate::fault::ModelFault;
@@ -14,8 +13,7 @@ use std::alloc::Global;
 
 // Gives a member the number of its target, or answers the target, which no shape is.
 fn link<'a>(numbers: &Numbers<'a>, member: &mut Member<'a>) -> Result<(), &'a str>
-    ensures linked { OnOk result (IsNumbered (numbers_view numbers.now) (member_view member.old) (member_view member.new)) }
-    ensures refused { IfErr result (λ id. IsMissing (numbers_view numbers.now) (λ id. is_target id (member_view member.old)) id.now) }
+    ensures { Links (numbers_view numbers.now) IsNumbered is_target (member_view member.old) (member_view member.new) result }
 {
     let Some(number) = numbers.number(member.target) else {
         return Err(member.target);
@@ -26,8 +24,7 @@ fn link<'a>(numbers: &Numbers<'a>, member: &mut Member<'a>) -> Result<(), &'a st
 
 // Gives members the numbers of their targets.
 fn link_all<'a>(numbers: &Numbers<'a>, members: &mut Vec<Member<'a>>) -> Result<(), &'a str>
-    ensures linked { OnOk result (AllZip (IsNumbered (numbers_view numbers.now)) (map member_view members.old.items) (map member_view members.new.items)) }
-    ensures refused { IfErr result (λ id. IsMissing (numbers_view numbers.now) (λ id. list_any (is_target id) (map member_view members.old.items)) id.now) }
+    ensures { LinksAll (numbers_view numbers.now) IsNumbered is_target (map member_view members.old.items) (map member_view members.new.items) result }
 {
     for place in 0..members.len() {
         link(numbers, &mut members[place])?;
@@ -37,8 +34,7 @@ fn link_all<'a>(numbers: &Numbers<'a>, members: &mut Vec<Member<'a>>) -> Result<
 
 // Gives the members of a shape the numbers of their targets.
 fn link_shape<'a>(numbers: &Numbers<'a>, shape: &mut Shape<'a>) -> Result<(), &'a str>
-    ensures linked { OnOk result (IsShapeNumbered (numbers_view numbers.now) (shape_view shape.old) (shape_view shape.new)) }
-    ensures refused { IfErr result (λ id. IsMissing (numbers_view numbers.now) (λ id. has_target id (shape_view shape.old).kind) id.now) }
+    ensures { Links (numbers_view numbers.now) IsShapeNumbered is_target_of (shape_view shape.old) (shape_view shape.new) result }
 {
     match &mut shape.kind {
         Kind::Simple(_) => Ok(()),
@@ -66,8 +62,7 @@ fn link_shape<'a>(numbers: &Numbers<'a>, shape: &mut Shape<'a>) -> Result<(), &'
 
 // Gives the members of shapes the numbers of their targets.
 fn link_shapes<'a>(numbers: &Numbers<'a>, shapes: &mut Vec<Shape<'a>>) -> Result<(), &'a str>
-    ensures linked { OnOk result (AllZip (IsShapeNumbered (numbers_view numbers.now)) (map shape_view shapes.old.items) (map shape_view shapes.new.items)) }
-    ensures refused { IfErr result (λ id. IsMissing (numbers_view numbers.now) (λ id. list_any (λ (s : kept.Shape). has_target id s.kind) (map shape_view shapes.old.items)) id.now) }
+    ensures { LinksAll (numbers_view numbers.now) IsShapeNumbered is_target_of (map shape_view shapes.old.items) (map shape_view shapes.new.items) result }
 {
     for number in 0..shapes.len() {
         link_shape(numbers, &mut shapes[number])?;
@@ -77,8 +72,7 @@ fn link_shapes<'a>(numbers: &Numbers<'a>, shapes: &mut Vec<Shape<'a>>) -> Result
 
 // Gives all members of a model, and the structures of its operations, the numbers of their targets.
 fn link_targets<'a>(numbers: &Numbers<'a>, model: &mut Model<'a>) -> Result<(), &'a str>
-    ensures linked { OnOk result (AreTargetsNumbered (numbers_view numbers.now) (model_view model.old) (model_view model.new)) }
-    ensures refused { IfErr result (λ id. IsMissing (numbers_view numbers.now) (λ id. is_target_in id (model_view model.old)) id.now) }
+    ensures { Links (numbers_view numbers.now) AreTargetsNumbered is_target_in (model_view model.old) (model_view model.new) result }
 {
     link_shapes(numbers, &mut model.shapes)?;
     link_operations(numbers, &mut model.operations)?;

@@ -1,24 +1,14 @@
 //! Members: of structures and unions, of lists and of maps.
-ghost use Rattle.std.specs.Prelude.{◌≡◌, None, Some, List, map, option_map, IfOk, IfErr};
+ghost use Rattle.std.specs.Prelude.{◌≡◌, None, Some, map, option_map, IfOk};
 ghost use Rattle.json.specs.Value.{value_view};
-ghost use Rattle.smithy_model.specs.Members.{has_location, is_in_headers, is_in_request_line, is_in_status_line, smithy_member, service_time, is_named_payload, service_member, member_in, part_in, members_in};
+ghost use Rattle.smithy_model.specs.Members.{is_in_headers, is_in_request_line, is_in_status_line, smithy_member, service_time, service_member, member_in, part_in, members_in};
 ghost use Rattle.smithy_model.specs.Views.{member_view, form_view};
 
 use crate::format::Format;
 use crate::model::Member;
-use crate::objects::{entries, has_trait, is_no_object, is_set, text, trait_text};
+use crate::objects::{entries, has_text, has_trait, is_no_object, is_set, text, trait_text};
 use json::Value;
 use std::alloc::{AllocError, Global};
-
-// Whether a `service-2.json` binds a member to this part of a message.
-fn has_location(spec: &Value<'_>, name: &str) -> bool
-    ensures { result ≡ has_location name.now (value_view spec.now) }
-{
-    match text(spec, "location") {
-        Some(given) => given == name,
-        None => false,
-    }
-}
 
 // Whether a member is bound to headers.
 fn is_in_headers(format: Format, spec: &Value<'_>) -> bool
@@ -29,7 +19,7 @@ fn is_in_headers(format: Format, spec: &Value<'_>) -> bool
             has_trait(spec, "smithy.api#httpHeader")
                 || has_trait(spec, "smithy.api#httpPrefixHeaders")
         }
-        _ => has_location(spec, "header") || has_location(spec, "headers"),
+        _ => has_text(spec, "location", "header") || has_text(spec, "location", "headers"),
     }
 }
 
@@ -43,7 +33,7 @@ fn is_in_request_line(format: Format, spec: &Value<'_>) -> bool
                 || has_trait(spec, "smithy.api#httpQuery")
                 || has_trait(spec, "smithy.api#httpQueryParams")
         }
-        _ => has_location(spec, "uri") || has_location(spec, "querystring"),
+        _ => has_text(spec, "location", "uri") || has_text(spec, "location", "querystring"),
     }
 }
 
@@ -53,7 +43,7 @@ fn is_in_status_line(format: Format, spec: &Value<'_>) -> bool
 {
     match format {
         Format::Smithy => has_trait(spec, "smithy.api#httpResponseCode"),
-        _ => has_location(spec, "statusCode"),
+        _ => has_text(spec, "location", "statusCode"),
     }
 }
 
@@ -89,17 +79,7 @@ pub(crate) fn service_time<'a>(spec: &Value<'a>) -> Option<&'a str>
     }
 }
 
-// Whether a structure of a `service-2.json` names this member as its payload.
-fn is_named_payload(outer: &Value<'_>, name: &str) -> bool
-    ensures { result ≡ is_named_payload (value_view outer.now) name.now }
-{
-    match text(outer, "payload") {
-        Some(payload) => payload == name,
-        None => false,
-    }
-}
-
-// A member of a `service-2.json`. Its `locationName` is the name that its protocol uses.
+// A member of a `service-2.json`. Its `locationName` is the name that its protocol uses, and its structure may name it as the payload.
 fn service_member<'a>(
     format: Format,
     outer: &Value<'a>,
@@ -127,7 +107,7 @@ fn service_member<'a>(
         in_headers: is_in_headers(format, spec),
         in_request_line: is_in_request_line(format, spec),
         in_status_line: is_in_status_line(format, spec),
-        is_payload: is_named_payload(outer, name),
+        is_payload: has_text(outer, "payload", name),
     })
 }
 

@@ -1,10 +1,10 @@
 //! What shapes take over from their mixins (Smithy 2.0, "Mixins").
-ghost use Rattle.std.specs.Prelude.{◌≡◌, ◌<◌, ◌||◌, ◌&&◌, ℕ, option_map, List, not, None, Some, [], ◌∷◌, ◌++◌, map, length, slice_get, true, false, OnOk, IfOk, IfErr, IfSome};
+ghost use Rattle.std.specs.Prelude.{◌≡◌, ◌<◌, ◌||◌, ◌&&◌, ℕ, option_map, List, not, None, Some, [], map, length, slice_get, true, false, OnOk, IfOk, IfErr, IfSome};
 ghost use Rattle.std.specs.List.{fold, AllZip};
 ghost use Rattle.std.specs.Option.{option_or};
 ghost use Rattle.smithy_model.specs.Model as specs;
-ghost use Rattle.smithy_model.specs.Mixins.{takes_mixins, members_of, with_members, redefined, with_member, has_other_target, agree, nothing, with_shape, with_gathered, gathered, uses_of, AreMixed, is_done, IsDone};
-ghost use Rattle.smithy_model.specs.Mixing.{TakesIn, IsWaiting, IsHeldUp, IsSettledAt, RefusesOne, RefusesHere, count_of_waiting};
+ghost use Rattle.smithy_model.specs.Mixins.{takes_mixins, members_of, with_members, redefined, with_member, has_other_target, agree, nothing, with_shape, with_gathered, gathered, AreMixed, is_done, IsDone};
+ghost use Rattle.smithy_model.specs.Mixing.{TakesMixins, IsWaiting, IsHeldUp, IsSettledAt, RefusesOne, count_of_waiting};
 ghost use Rattle.smithy_model.specs.Placing.{position_of, place_in, ArePlaces};
 ghost use Rattle.smithy_model.specs.Reading.{ids_of};
 ghost use Rattle.smithy_model.specs.Faults.{RefusesMixins};
@@ -251,12 +251,10 @@ pub(crate) fn take_in<'a>(
     number: usize,
 ) -> Result<bool, ModelFault<'a>>
     requires { numbers_view numbers.now ≡ ids_of (map shape_view shapes.now.items) }
-    ensures mixed { OnOk result (TakesIn (map shape_view shapes.old.items) (map shape_view shapes.new.items) done.old.items done.new.items) }
-    ensures uses { OnOk result (uses_of (map shape_view shapes.new.items) ≡ uses_of (map shape_view shapes.old.items)) }
+    ensures taken { TakesMixins (map shape_view shapes.old.items) (map shape_view shapes.new.items) done.old.items done.new.items result }
     ensures fewer { IfOk result (λ found. found ≡ true → count_of_waiting done.new.items < count_of_waiting done.old.items) }
     ensures held_up { IfOk result (λ found. found ≡ false → (shapes.new ≡ shapes.old) × (done.new ≡ done.old)
         × IsSettledAt (map shape_view shapes.old.items) done.old.items number) }
-    ensures refused { IfErr result (RefusesHere (map shape_view shapes.old.items) done.old.items) }
 {
     if number >= shapes.len() || number >= done.len() {
         return Ok(false);
@@ -280,11 +278,9 @@ fn take_in_some<'a>(
     done: &mut Vec<bool>,
 ) -> Result<bool, ModelFault<'a>>
     requires { numbers_view numbers.now ≡ ids_of (map shape_view shapes.now.items) }
-    ensures mixed { OnOk result (TakesIn (map shape_view shapes.old.items) (map shape_view shapes.new.items) done.old.items done.new.items) }
-    ensures uses { OnOk result (uses_of (map shape_view shapes.new.items) ≡ uses_of (map shape_view shapes.old.items)) }
+    ensures taken { TakesMixins (map shape_view shapes.old.items) (map shape_view shapes.new.items) done.old.items done.new.items result }
     ensures fewer { IfOk result (λ found. found ≡ true → count_of_waiting done.new.items < count_of_waiting done.old.items) }
     ensures held_up { IfOk result (λ found. found ≡ false → (k : ℕ) → IsSettledAt (map shape_view shapes.new.items) done.new.items k) }
-    ensures refused { IfErr result (RefusesHere (map shape_view shapes.old.items) done.old.items) }
 {
     let mut found = false;
     for number in 0..shapes.len() {
@@ -305,9 +301,8 @@ fn take_in_all<'a>(
     done: &mut Vec<bool>,
 ) -> Result<(), ModelFault<'a>>
     requires { numbers_view numbers.now ≡ ids_of (map shape_view shapes.now.items) }
-    ensures mixed { OnOk result (TakesIn (map shape_view shapes.old.items) (map shape_view shapes.new.items) done.old.items done.new.items) }
+    ensures taken { TakesMixins (map shape_view shapes.old.items) (map shape_view shapes.new.items) done.old.items done.new.items result }
     ensures held_up { OnOk result ((k : ℕ) → IsSettledAt (map shape_view shapes.new.items) done.new.items k) }
-    ensures refused { IfErr result (RefusesHere (map shape_view shapes.old.items) done.old.items) }
 {
     while take_in_some(alloc, shapes, numbers, done)? {}
     Ok(())

@@ -42,8 +42,8 @@ fn has_at(ids: &[&str], number: usize, id: &str) -> bool
     }
 }
 
-// The place of the first of these ids that is this.
-fn find(ids: &[&str], id: &str) -> Option<usize>
+/// The place of the first of these ids that is this.
+pub fn place_of(ids: &[&str], id: &str) -> Option<usize>
     ensures found { IfSome result (λ number. slice_get (map (λ t. t.now) ids.now) number ≡ Some id.now) }
     ensures unknown { result ≡ None → list_any (λ other. bytes_eq other id.now) (map (λ t. t.now) ids.now) ≡ false }
 {
@@ -90,6 +90,6 @@ impl<'a> Numbers<'a> {
                 return Some(number);
             }
         }
-        find(&self.ids, id)
+        place_of(&self.ids, id)
     }
 }

@@ -1,6 +1,6 @@
 //! Looking into JSON values by the names of their members.
 ghost use Rattle.std.specs.Prelude.{◌≡◌, [], map, option_map, unwrap_or};
-ghost use Rattle.smithy_model.specs.Objects.{text_in, is_there, is_set, entries, entries_in, items, items_in, is_no_object, is_no_array, trait_text, has_trait, inner_text};
+ghost use Rattle.smithy_model.specs.Objects.{text_in, has_text, is_there, is_set, entries, entries_in, items, items_in, is_no_object, is_no_array, trait_text, has_trait, inner_text};
 ghost use Rattle.smithy_model.specs.Views.{entry_view};
 ghost use Rattle.json.specs.Value.{value_view};
 
@@ -11,6 +11,16 @@ pub(crate) fn text<'a>(spec: &Value<'a>, name: &str) -> Option<&'a str>
     ensures { option_map (λ t. t.now) result ≡ text_in name.now (value_view spec.now) }
 {
     spec.get(name)?.as_str()
+}
+
+/// Whether the member of this name is this text.
+pub(crate) fn has_text(spec: &Value<'_>, name: &str, wanted: &str) -> bool
+    ensures { result ≡ has_text name.now wanted.now (value_view spec.now) }
+{
+    match text(spec, name) {
+        Some(given) => given == wanted,
+        None => false,
+    }
 }
 
 /// Whether there is a member of this name.

@@ -1,28 +1,18 @@
 //! The shapes and the operations of a model.
-ghost use Rattle.std.specs.Prelude.{◌≡◌, ◌++◌, List, [], ◌∷◌, Some, map, OnOk, IfOk, IfErr};
+ghost use Rattle.std.specs.Prelude.{◌≡◌, map};
 ghost use Rattle.json.specs.Value.{value_view};
-ghost use Rattle.smithy_model.specs.Reading.{has_type, is_of_values, is_operation, shapes_among, operations_among};
-ghost use Rattle.smithy_model.specs.Model as kept;
+ghost use Rattle.smithy_model.specs.Reading.{is_of_values, is_operation, shapes_among, operations_among};
+ghost use Rattle.smithy_model.specs.Among.{ReadsAmong, AddsAmong};
 ghost use Rattle.smithy_model.specs.Faults.{refusal_of, RefusesShapes, RefusesOperations};
 ghost use Rattle.smithy_model.specs.Views.{entry_view, form_view, shape_view, operation_view};
 
 use crate::fault::ModelFault;
 use crate::format::Format;
 use crate::model::{Operation, Shape};
-use crate::objects::text;
+use crate::objects::has_text;
 use crate::shapes::{read_operation, read_shape};
 use json::Value;
 use std::alloc::Global;
-
-/// Whether what stands under an id has this type.
-pub(crate) fn has_type(spec: &Value<'_>, name: &str) -> bool
-    ensures { result ≡ has_type name.now (value_view spec.now) }
-{
-    match text(spec, "type") {
-        Some(given) => given == name,
-        None => false,
-    }
-}
 
 // Whether this is a shape of values: in a Smithy model no operation, service or resource.
 fn is_of_values(format: Format, spec: &Value<'_>) -> bool
@@ -30,9 +20,9 @@ fn is_of_values(format: Format, spec: &Value<'_>) -> bool
 {
     match format {
         Format::Smithy => {
-            !(has_type(spec, "operation")
-                || has_type(spec, "service")
-                || has_type(spec, "resource"))
+            !(has_text(spec, "type", "operation")
+                || has_text(spec, "type", "service")
+                || has_text(spec, "type", "resource"))
         }
         _ => true,
     }
@@ -43,7 +33,7 @@ fn is_operation(format: Format, spec: &Value<'_>) -> bool
     ensures { result ≡ is_operation (form_view format) (value_view spec.now) }
 {
     match format {
-        Format::Smithy => has_type(spec, "operation"),
+        Format::Smithy => has_text(spec, "type", "operation"),
         _ => true,
     }
 }
@@ -52,7 +42,7 @@ fn is_operation(format: Format, spec: &Value<'_>) -> bool
 fn fault_of<'a>(id: &'a str, spec: &Value<'_>) -> ModelFault<'a>
     ensures { result ≡ refusal_of id.entry (value_view spec.now) }
 {
-    if has_type(spec, "apply") {
+    if has_text(spec, "type", "apply") {
         ModelFault::Applied(id)
     } else {
         ModelFault::BadShape(id)
@@ -67,9 +57,7 @@ fn add_shape<'a>(
     spec: &Value<'a>,
     shapes: &mut Vec<Shape<'a>>,
 ) -> Result<(), ModelFault<'a>>
-    ensures read { OnOk result ((more : List kept.Shape) × (shapes_among (form_view format) ((id.now, value_view spec.now) ∷ []) ≡ Some more)
-        × (map shape_view shapes.new.items ≡ map shape_view shapes.old.items ++ more)) }
-    ensures refused { IfErr result (RefusesShapes (form_view format) ((id.now, value_view spec.now) ∷ [])) }
+    ensures { AddsAmong (shapes_among (form_view format)) (RefusesShapes (form_view format)) (id.now, value_view spec.now) (map shape_view shapes.old.items) (map shape_view shapes.new.items) result }
 {
     if !is_of_values(format, spec) {
         return Ok(());
@@ -86,8 +74,7 @@ pub(crate) fn read_shapes<'a>(
     format: Format,
     entries: &[(&'a str, Value<'a>)],
 ) -> Result<Vec<Shape<'a>>, ModelFault<'a>>
-    ensures read { IfOk result (λ shapes. shapes_among (form_view format) (map entry_view entries.now) ≡ Some (map shape_view shapes.items)) }
-    ensures refused { IfErr result (RefusesShapes (form_view format) (map entry_view entries.now)) }
+    ensures { ReadsAmong (shapes_among (form_view format)) (RefusesShapes (form_view format)) (map entry_view entries.now) (λ shapes. map shape_view shapes.items) result }
 {
     let mut shapes = Vec::new(alloc);
     for (id, spec) in entries {
@@ -104,9 +91,7 @@ fn add_operation<'a>(
     spec: &Value<'a>,
     operations: &mut Vec<Operation<'a>>,
 ) -> Result<(), ModelFault<'a>>
-    ensures read { OnOk result ((more : List kept.Operation) × (operations_among (form_view format) ((id.now, value_view spec.now) ∷ []) ≡ Some more)
-        × (map operation_view operations.new.items ≡ map operation_view operations.old.items ++ more)) }
-    ensures refused { IfErr result (RefusesOperations (form_view format) ((id.now, value_view spec.now) ∷ [])) }
+    ensures { AddsAmong (operations_among (form_view format)) (RefusesOperations (form_view format)) (id.now, value_view spec.now) (map operation_view operations.old.items) (map operation_view operations.new.items) result }
 {
     if !is_operation(format, spec) {
         return Ok(());
@@ -123,8 +108,7 @@ pub(crate) fn read_operations<'a>(
     format: Format,
     entries: &[(&'a str, Value<'a>)],
 ) -> Result<Vec<Operation<'a>>, ModelFault<'a>>
-    ensures read { IfOk result (λ operations. operations_among (form_view format) (map entry_view entries.now) ≡ Some (map operation_view operations.items)) }
-    ensures refused { IfErr result (RefusesOperations (form_view format) (map entry_view entries.now)) }
+    ensures { ReadsAmong (operations_among (form_view format)) (RefusesOperations (form_view format)) (map entry_view entries.now) (λ operations. map operation_view operations.items) result }
 {
     let mut operations = Vec::new(alloc);
     for (id, spec) in entries {

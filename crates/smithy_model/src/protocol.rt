@@ -5,8 +5,7 @@ ghost use Rattle.smithy_model.specs.Reading.{protocol_in, form_of_protocol, form
 ghost use Rattle.smithy_model.specs.Views.{entry_view, form_view};
 
 use crate::format::Format;
-use crate::objects::{has_trait, inner_text, is_there};
-use crate::parts::has_type;
+use crate::objects::{has_text, has_trait, inner_text, is_there};
 use json::Value;
 
 // The protocol that a `service-2.json` names.
@@ -49,7 +48,7 @@ fn has_protocol(entries: &[(&str, Value<'_>)], name: &str) -> bool
     ensures { result ≡ has_protocol name.now (map entry_view entries.now) }
 {
     for (_, spec) in entries {
-        if has_type(spec, "service") && has_trait(spec, name) {
+        if has_text(spec, "type", "service") && has_trait(spec, name) {
             return true;
         }
     }

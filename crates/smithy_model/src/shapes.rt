@@ -1,7 +1,7 @@
 //! Shapes and operations, as the text of a model has them.
 ghost use Rattle.std.specs.Prelude.{◌≡◌, map, option_map, IfOk};
 ghost use Rattle.json.specs.Value.{value_view};
-ghost use Rattle.smithy_model.specs.Shapes.{references_in, reference_key, reference_in, reference_if, errors_in, operation_with, operation_in, is_sparse_in, is_flattened_in, time_in, shape_in};
+ghost use Rattle.smithy_model.specs.Shapes.{references_in, reference_key, reference_to, reference_in, reference_if, errors_in, operation_with, operation_in, is_sparse_in, is_flattened_in, time_in, shape_in};
 ghost use Rattle.smithy_model.specs.Views.{reference_view, operation_view, shape_view, form_view};
 
 use crate::format::Format;
@@ -47,14 +47,21 @@ fn reference_key(format: Format) -> &'static str
     }
 }
 
+// A reference to the shape of this id.
+fn reference_to<'a>(id: &'a str) -> Reference<'a>
+    ensures { reference_view result ≡ reference_to id.now }
+{
+    Reference {
+        target: id,
+        number: 0,
+    }
+}
+
 // What a value refers to.
 fn read_reference<'a>(spec: &Value<'a>, key: &str) -> Option<Reference<'a>>
     ensures { option_map reference_view result ≡ reference_in key.now (value_view spec.now) }
 {
-    Some(Reference {
-        target: text(spec, key)?,
-        number: 0,
-    })
+    Some(reference_to(text(spec, key)?))
 }
 
 // What the member of this name refers to, if there is one: none where it refers to nothing.
@@ -75,18 +82,12 @@ fn read_errors<'a>(
 ) -> Result<Option<Vec<Reference<'a>>>, AllocError>
     ensures { IfOk result (λ read. option_map (λ errors. map reference_view errors.items) read ≡ errors_in key.now (value_view spec.now)) }
 {
-    if is_no_array(spec, "errors") {
+    let Some(ids) = references(alloc, spec, "errors", key)? else {
         return Ok(None);
-    }
-    let mut errors = Vec::new(alloc);
-    let Some(items) = items(spec, "errors") else {
-        return Ok(Some(errors));
     };
-    for item in items {
-        match read_reference(item, key) {
-            Some(error) => errors.push(error)?,
-            None => return Ok(None),
-        }
+    let mut errors = Vec::with_capacity(alloc, ids.len())?;
+    for id in &ids {
+        errors.push(reference_to(*id))?;
     }
     Ok(Some(errors))
 }

@@ -1,15 +1,14 @@
 -- Names and places of ids.
-use Rattle.std.proofs.Common.{◌≡◌, ◌≢◌, inl, inr, ◌<◌, ◌≤◌, ◌+◌, ◌∙◌, ℕ, zero, suc, List, [], ◌∷◌, ◌++◌, Bor, length, map, take, drop, take_all, get_or, slice_get, bytes_eq, Option, Some, None, refl, sym, ap, subst, arith}
-use Rattle.std.specs.Prelude.{Bool, true, false, ◌||◌, not, cond, MatchOption, is_some}
+use Rattle.std.proofs.Common.{◌≡◌, ◌≢◌, inl, inr, ◌<◌, ◌≤◌, ◌+◌, ◌∙◌, ℕ, zero, suc, List, [], ◌∷◌, ◌++◌, Bor, length, map, take, drop, take_all, get_or, slice_get, Option, Some, None, option_map, refl, sym, ap, subst, arith}
+use Rattle.std.specs.Prelude.{Bool, true, false, ◌||◌, not, cond, MatchOption, IfSome, is_some}
 use Rattle.std.specs.List.{list_any, filter, position_or_len, after_first}
 use Rattle.std.proofs.lemmas.List.Elements.{filter-append}
 use Rattle.std.proofs.lemmas.List.{take_more, map-append, length-append, take-append-drop}
-use Rattle.std.proofs.lemmas.Slice.Eq.{bytes_eq-Decides}
 use Rattle.std.proofs.lemmas.Option.{none-some}
 use Rattle.smithy_model.specs.Model.{Shape, Operation, Model}
 use Rattle.smithy_model.specs.Reading.{ids_of}
 use Rattle.smithy_model_table.specs.Naming.{is_number_sign, name_in}
-use Rattle.smithy_model_table.specs.Wanted.{is_named, IsOnly, IsIdNamed, HasNotOne, operation_ids}
+use Rattle.smithy_model_table.specs.Wanted.{is_named, IsOnly, IsIdNamed, IsOperationNamed, HasNotOne, operation_ids}
 
 none_by : (b : Bool) (n m : ℕ) (rest : Bool) → (n ≡ m → rest ≡ false) → cond (not b) (1 + n) 0 ≡ suc m → (b || rest) ≡ false
 none_by true n m rest behind is = absurd (omega (arith, is))
@@ -34,13 +33,6 @@ name_behind id name there is = rw (one_passes is_number_sign id there) is
 -- an id without one
 pub whole_name : (id : List ℕ) → position_or_len is_number_sign id ≡ length id → id ≡ name_in id
 whole_name id none = rw (none_passes is_number_sign id none) refl
-
--- where the id stands
-pub found_at : (ids : List (Bor (List ℕ))) (i : ℕ) (d : Bor (List ℕ)) (id : List ℕ) → i < length ids → bytes_eq (get_or ids i d).now id ≡ true
-    → slice_get (map (λ (t : Bor (List ℕ)). t.now) ids) i ≡ Some id
-found_at [] i d id within same = absurd (omega (arith, within))
-found_at (x ∷ ids) zero d id within same = ap Some ((bytes_eq-Decides x.now id).0 same)
-found_at (x ∷ ids) (suc i) d id within same = found_at ids i d id (omega (arith, within)) same
 
 id_at : (ids : List (Bor (List ℕ))) (i : ℕ) (w : Bor (List ℕ)) → i < length ids → w ≡ get_or ids i w
     → slice_get (map (λ (t : Bor (List ℕ)). t.now) ids) i ≡ Some w.now
@@ -149,3 +141,8 @@ shape_there m name number (inr (id, at, only)) none = there_by (λ (s : Shape). 
 
 pub operation_there : (m : Model) (name : List ℕ) (number : ℕ) → IsOnly (operation_ids m) name number → slice_get m.operations number ≡ None → ⊥
 operation_there m name number (id, at, only) none = there_by (λ (o : Operation). o.id) m.operations number id at none
+
+pub operation_found : {W : Type 0} (v : W → Operation) (m : Model) (name : List ℕ) (number : ℕ) → IsOnly (operation_ids m) name number → (found : Option W)
+    → option_map v found ≡ slice_get m.operations number → IfSome found (λ w. IsOperationNamed m name (v w))
+operation_found v m name number only None is = tt
+operation_found v m name number only (Some w) is = (number, only, sym is)

@@ -1,5 +1,5 @@
 -- What sets of ids and numbers gain, one by one.
-use Rattle.std.proofs.Common.{◌≡◌, ◌<◌, ◌+◌, ◌∙◌, ℕ, List, [], ◌∷◌, length, map, take, get_or, bytes_eq, refl, sym, ap}
+use Rattle.std.proofs.Common.{◌≡◌, ◌<◌, ◌+◌, ◌∙◌, ℕ, List, [], ◌∷◌, ◌++◌, length, map, take, get_or, bytes_eq, refl, sym, ap}
 use Rattle.std.specs.Prelude.{Bool, true, false, ◌||◌, cond, ◌==◌}
 use Rattle.std.specs.List.{list_any}
 use Rattle.std.specs.Ordering.{is_eq, nat_cmp}
@@ -34,6 +34,18 @@ gained_text text other before behind is = is ∙ true_or (bytes_eq text other) b
 -- the same of a number
 pub gained_number : (number other : ℕ) (before behind : Bool) → behind ≡ cond (is_eq (nat_cmp number other)) true before → behind ≡ ((number == other) || before)
 gained_number number other before behind is = is ∙ true_or (is_eq (nat_cmp number other)) before ∙ ap (λ b. b || before) (unsigned_tied number other)
+
+turned : (a b : Bool) → (a || b) ≡ (b || (a || false))
+turned true true = refl
+turned true false = refl
+turned false true = refl
+turned false false = refl
+
+-- what one more gives, of which a set is gathered
+pub gained_behind : {A X : Type 0} (f : A → X → Bool) (xs : List X) (x : X) (before behind : A → Bool) → ((a : A) → before a ≡ list_any (f a) xs)
+    → Gains (λ a. f a x) before behind → (a : A) → behind a ≡ list_any (f a) (xs ++ x ∷ [])
+gained_behind f xs x before behind so_far one = λ a.
+    one a ∙ ap (λ b. f a x || b) (so_far a) ∙ turned (f a x) (list_any (f a) xs) ∙ sym (list_any-append (f a) xs (x ∷ []))
 
 any_more : {W X : Type 0} (p : X → Bool) (v : W → X) (ws : List W) (i : ℕ) (d : W) → i < length ws
     → list_any p (map v (take (i + 1) ws)) ≡ (list_any p (map v (take i ws)) || (p (v (get_or ws i d)) || false))

@@ -1,5 +1,5 @@
 -- Why a part of a model is no table.
-use Rattle.std.proofs.Common.{◌≡◌, ◌≤◌, ℕ, inr, List, Bool, length, refl}
+use Rattle.std.proofs.Common.{◌≡◌, ◌≤◌, ℕ, inr, List, Bool, length}
 use Rattle.smithy_model.specs.Model.{Model}
 use Rattle.smithy_declarations.specs.Decl.{Decl}
 use Rattle.smithy_table_text.specs.declared.fault.TextFault.{TextFault}
@@ -7,13 +7,13 @@ use Rattle.smithy_table_text.specs.declared.fault.TextFault.TheVariants as text_
 use Rattle.smithy_table_text.specs.Writable.{RefusesDecls}
 use Rattle.smithy_model_table.specs.declared.fault.WantedFault.{WantedFault}
 use Rattle.smithy_model_table.specs.declared.fault.WantedFault.TheVariants as faults
-use Rattle.smithy_model_table.specs.Finding.{IsOfSearch}
+use Rattle.smithy_model_table.specs.Finding.{RefusesSearch}
 use Rattle.smithy_model_table.specs.Leaving.{AreFewest}
 use Rattle.smithy_model_table.specs.Declaring.{Names}
 use Rattle.smithy_model_table.specs.Naming.{names_of}
 use Rattle.smithy_model_table.specs.Outcomes.{LeftOut, AreParts}
 use Rattle.smithy_model_table.specs.Reaching.{AreReached}
-use Rattle.smithy_model_table.specs.Wanted.{Wanted, AreRoots, HasNoDeclaration, LacksName}
+use Rattle.smithy_model_table.specs.Wanted.{Wanted, AreRoots}
 use Rattle.smithy_model_table.specs.ModelTable.{most_shapes, IsMade}
 use Rattle.smithy_model_table.specs.Refusals.{RefusesWanted, fault_of_text}
 use Rattle.smithy_model_table.proofs.Roots.{root_first}
@@ -36,14 +36,13 @@ made_of m w names marks roots order decls left few named fewest wanted reached d
 }
 
 -- what is wanted isn't found
-pub roots_refused : (m : Model) (marks : List Bool) (w : Wanted) (fault : WantedFault) → AreFewest m marks → IsOfSearch fault
-    → (fault ≡ faults.NoSuchName → LacksName m w) → (fault ≡ faults.NoDeclaration → HasNoDeclaration m marks w) → RefusesWanted m w fault
-roots_refused m marks w faults.NoSuchName fewest of lacks undeclared = lacks refl
-roots_refused m marks w faults.NoDeclaration fewest of lacks undeclared = (marks, fewest, undeclared refl)
-roots_refused m marks w faults.NoMemory fewest of lacks undeclared = tt
-roots_refused m marks w faults.TooLong fewest of lacks undeclared = absurd of
-roots_refused m marks w (faults.TableRefused fault) fewest of lacks undeclared = absurd of
-roots_refused m marks w faults.Unwritable fewest of lacks undeclared = absurd of
+pub roots_refused : (m : Model) (marks : List Bool) (w : Wanted) (fault : WantedFault) → AreFewest m marks → RefusesSearch m marks w fault → RefusesWanted m w fault
+roots_refused m marks w faults.NoSuchName fewest refused = refused
+roots_refused m marks w faults.NoDeclaration fewest refused = (marks, fewest, refused)
+roots_refused m marks w faults.NoMemory fewest refused = tt
+roots_refused m marks w faults.TooLong fewest refused = absurd refused
+roots_refused m marks w (faults.TableRefused fault) fewest refused = absurd refused
+roots_refused m marks w faults.Unwritable fewest refused = absurd refused
 
 -- the declarations have no text
 pub text_refused : (m : Model) (w : Wanted) (decls : List Decl) (left : List LeftOut) (fault : TextFault) → IsMade m w decls left → RefusesDecls decls fault

@@ -11,15 +11,25 @@ pub record Bindings : Type 0 where
   pub request_line : Bool
   pub status_line : Bool
 
--- the structure of this number is the input of an operation, an output, an error
+-- the structure of this number is the input of the operation, its output, one of its errors
+abbrev pub has_input : ℕ → Operation → Bool
+has_input number o = option_map_or (λ (r : Reference). r.number == number) o.input false
+
+abbrev pub has_output : ℕ → Operation → Bool
+has_output number o = option_map_or (λ (r : Reference). r.number == number) o.output false
+
+abbrev pub has_error : ℕ → Operation → Bool
+has_error number o = list_any (λ (r : Reference). r.number == number) o.errors
+
+-- it is so in some operation
 abbrev pub is_input : Model → ℕ → Bool
-is_input m number = list_any (λ (o : Operation). option_map_or (λ (r : Reference). r.number == number) o.input false) m.operations
+is_input m number = list_any (has_input number) m.operations
 
 abbrev pub is_output : Model → ℕ → Bool
-is_output m number = list_any (λ (o : Operation). option_map_or (λ (r : Reference). r.number == number) o.output false) m.operations
+is_output m number = list_any (has_output number) m.operations
 
 abbrev pub is_error : Model → ℕ → Bool
-is_error m number = list_any (λ (o : Operation). list_any (λ (r : Reference). r.number == number) o.errors) m.operations
+is_error m number = list_any (has_error number) m.operations
 
 -- a part of the shape has the shape of this number as its target
 abbrev pub leads_to : ℕ → Kind → Bool

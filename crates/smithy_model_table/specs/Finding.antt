@@ -1,10 +1,13 @@
--- What a search for the wanted shapes answers.
+-- Why a search for the wanted shapes refuses.
+use Rattle.std.specs.Prelude.{List, Bool}
+use Rattle.smithy_model.specs.Model.{Model}
 use Rattle.smithy_model_table.specs.declared.fault.WantedFault.{WantedFault}
 use Rattle.smithy_model_table.specs.declared.fault.WantedFault.TheVariants as faults
+use Rattle.smithy_model_table.specs.Wanted.{Wanted, LacksName, HasNoDeclaration}
 
--- a search refuses with no other fault
-abbrev pub IsOfSearch : WantedFault → Type 0
-IsOfSearch faults.NoSuchName = Unit {0}
-IsOfSearch faults.NoDeclaration = Unit {0}
-IsOfSearch faults.NoMemory = Unit {0}
-IsOfSearch _ = ⊥
+-- the model has no such name, or no declaration stands for what is wanted, or memory was wanting
+abbrev pub RefusesSearch : Model → List Bool → Wanted → WantedFault → Type 0
+RefusesSearch m marks w faults.NoSuchName = LacksName m w
+RefusesSearch m marks w faults.NoDeclaration = HasNoDeclaration m marks w
+RefusesSearch m marks w faults.NoMemory = Unit {0}
+RefusesSearch m marks w _ = ⊥

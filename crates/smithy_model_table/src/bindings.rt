@@ -1,8 +1,8 @@
 //! Where HTTP bindings count.
-ghost use Rattle.std.specs.Prelude.{◌≡◌, true};
+ghost use Rattle.std.specs.Prelude.{◌≡◌};
 ghost use Rattle.smithy_model.specs.Views.{model_view};
 ghost use Rattle.smithy_model_table.specs.Bindings.{bindings_of, no_bindings};
-ghost use Rattle.smithy_model_table.specs.Roles.{AreRolesOf};
+ghost use Rattle.smithy_model_table.specs.Roles.{KnowsRoles};
 ghost use Rattle.smithy_model_table.specs.Views.{bindings_view};
 
 use crate::roles::Roles;
@@ -32,7 +32,7 @@ pub(crate) fn no_bindings() -> Bindings
 
 /// The bindings that count in the structure of this number, wherever it stands.
 pub(crate) fn bindings_of(model: &Model<'_>, roles: &Roles, number: usize) -> Bindings
-    requires { (model_view model.now).has_http_bindings ≡ true → AreRolesOf (model_view model.now) roles.now }
+    requires { KnowsRoles (model_view model.now) roles.now }
     ensures { bindings_view result ≡ bindings_of (model_view model.now) number }
 {
     if !model.has_http_bindings {

@@ -1,9 +1,9 @@
 //! The declarations of shapes.
-ghost use Rattle.std.specs.Prelude.{◌≡◌, ◌++◌, List, true, map as list_map, option_map, option_to_list, IfOk, OnOk};
+ghost use Rattle.std.specs.Prelude.{◌≡◌, ◌++◌, List, map as list_map, option_map, option_to_list, IfOk, OnOk};
 ghost use Rattle.smithy_model.specs.Views.{model_view, member_view, shape_view};
 ghost use Rattle.smithy_model_table.specs.Declaring.{is_sparse, list_decl, map_decl};
 ghost use Rattle.smithy_model_table.specs.Outcomes.{LeftOut, IsPartAt, AreParts};
-ghost use Rattle.smithy_model_table.specs.Roles.{AreRolesOf};
+ghost use Rattle.smithy_model_table.specs.Roles.{KnowsRoles};
 ghost use Rattle.smithy_model_table.specs.Views.{names_view, left_view};
 ghost use Rattle.smithy_declarations.specs.Decl.{list, map};
 ghost use Rattle.smithy_declarations.specs.DeclViews.{decl_of};
@@ -83,7 +83,7 @@ fn declare_shape<'a>(
     number: usize,
     left: &mut Vec<Left<'a>>,
 ) -> Result<Option<Decl>, AllocError>
-    requires { (model_view model.now).has_http_bindings ≡ true → AreRolesOf (model_view model.now) roles.now }
+    requires { KnowsRoles (model_view model.now) roles.now }
     ensures { IfOk result (λ d. (added : List LeftOut) × (list_map left_view left.new.items ≡ list_map left_view left.old.items ++ added)
         × IsPartAt (model_view model.now) marks.now (names_view names.now) number (record { decls = option_to_list (option_map decl_of d); left = added })) }
 {
@@ -137,7 +137,7 @@ pub(crate) fn declare_all<'a>(
     names: &Names<'a>,
     order: &[usize],
 ) -> Result<Declared<'a>, AllocError>
-    requires { (model_view model.now).has_http_bindings ≡ true → AreRolesOf (model_view model.now) roles.now }
+    requires { KnowsRoles (model_view model.now) roles.now }
     ensures { IfOk result (λ all. AreParts (model_view model.now) marks.now (names_view names.now) order.now (list_map decl_of all.decls.items) (list_map left_view all.left.items)) }
 {
     let mut decls = Vec::new(alloc);

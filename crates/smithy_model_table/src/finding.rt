@@ -1,9 +1,9 @@
 //! Finding shapes and operations by their ids and names.
-ghost use Rattle.std.specs.Prelude.{◌≡◌, None, Some, map, IfOk, IfErr, IfSome, slice_get};
+ghost use Rattle.std.specs.Prelude.{◌≡◌, None, map, IfOk, IfSome};
 ghost use Rattle.smithy_model.specs.Reading.{ids_of};
-ghost use Rattle.smithy_model.specs.Views.{model_view, operation_view};
+ghost use Rattle.smithy_model.specs.Views.{model_view};
 ghost use Rattle.smithy_model_table.specs.Naming.{name_in};
-ghost use Rattle.smithy_model_table.specs.Wanted.{is_named, IsOnly, HasNotOne, IsUnknown, operation_ids};
+ghost use Rattle.smithy_model_table.specs.Wanted.{is_named, IsOnly, HasNotOne, operation_ids};
 
 use smithy_model::Model;
 use std::alloc::{AllocError, Global};
@@ -48,19 +48,6 @@ pub(crate) fn operation_ids<'a>(
         ids.push(operation.id)?;
     }
     Ok(ids)
-}
-
-/// The place of the first of these ids that is this.
-pub(crate) fn place_of(ids: &[&str], id: &str) -> Option<usize>
-    ensures found { IfSome result (λ number. slice_get (map (λ t. t.now) ids.now) number ≡ Some id.now) }
-    ensures unknown { result ≡ None → IsUnknown (map (λ t. t.now) ids.now) id.now }
-{
-    for number in 0..ids.len() {
-        if ids[number] == id {
-            return Some(number);
-        }
-    }
-    None
 }
 
 /// The place of the only one of these ids that is this, or that has it as its name.

@@ -5,76 +5,34 @@ ghost use Rattle.smithy_model_table.specs.Marking.{Marks};
 
 use crate::carried::is_uncarried;
 use crate::places::shape_at;
-use smithy_model::{Kind, Member, Model};
+use smithy_model::{Kind, Member, Model, Users};
 use std::alloc::{AllocError, Global};
 
-// How many parts of a shape have a mark, before it follows that the shape has one.
-fn part_count(kind: &Kind<'_>) -> usize {
-    match kind {
-        Kind::List(_) => 1,
-        Kind::Map(_) => 1,
-        Kind::Union(members) => members.len(),
-        _ => 0,
-    }
-}
-
-// For each shape how many of its parts have no mark at first.
-fn part_counts(alloc: Global, model: &Model<'_>) -> Result<Vec<usize>, AllocError> {
-    let mut counts = Vec::with_capacity(alloc, model.shapes.len())?;
-    for shape in &model.shapes {
-        counts.push(part_count(&shape.kind))?;
-    }
-    Ok(counts)
-}
-
-// Adds a shape to those of which the shape of the number `part` is a part.
-fn add_user(users: &mut Vec<Vec<usize>>, part: usize, user: usize) -> Result<(), AllocError> {
-    match users.get_mut(part) {
-        Some(list) => Ok(list.push(user)?),
-        None => Ok(()),
-    }
-}
-
-// Adds a union to the users of each of its members.
-fn add_union(
-    users: &mut Vec<Vec<usize>>,
-    members: &[Member<'_>],
-    user: usize,
-) -> Result<(), AllocError> {
+// Adds that a shape has the targets of these members as its parts.
+fn add_members(users: &mut Users, members: &[Member<'_>], user: usize) -> Result<(), AllocError> {
     for member in members {
-        add_user(users, member.number, user)?;
+        users.add(member.number, user)?;
     }
     Ok(())
 }
 
-// Adds a shape to the users of each of its parts.
-fn add_uses(users: &mut Vec<Vec<usize>>, kind: &Kind<'_>, user: usize) -> Result<(), AllocError> {
+// Adds that a shape has its parts, whose marks decide about it.
+fn add_parts(users: &mut Users, kind: &Kind<'_>, user: usize) -> Result<(), AllocError> {
     match kind {
-        Kind::List(element) => add_user(users, element.number, user),
-        Kind::Map(entry) => add_user(users, entry.value.number, user),
-        Kind::Union(members) => add_union(users, members, user),
+        Kind::List(element) => users.add(element.number, user),
+        Kind::Map(entry) => users.add(entry.value.number, user),
+        Kind::Union(members) => add_members(users, members, user),
         _ => Ok(()),
     }
 }
 
-// For each shape those of which it is a part.
-fn users_of(alloc: Global, model: &Model<'_>) -> Result<Vec<Vec<usize>>, AllocError> {
-    let mut users = Vec::with_capacity(alloc, model.shapes.len())?;
-    for _ in 0..model.shapes.len() {
-        users.push(Vec::new(alloc))?;
-    }
+// Which shapes are parts of which.
+fn users_of(alloc: Global, model: &Model<'_>) -> Result<Users, AllocError> {
+    let mut users = Users::none(alloc, model.shapes.len())?;
     for user in 0..model.shapes.len() {
-        add_uses(&mut users, &model.shapes[user].kind, user)?;
+        add_parts(&mut users, &model.shapes[user].kind, user)?;
     }
     Ok(users)
-}
-
-// The shapes of which the shape of this number is a part.
-fn users_at(users: &[Vec<usize>], number: usize) -> &[usize] {
-    match users.get(number) {
-        Some(list) => list.as_slice(),
-        None => &[],
-    }
 }
 
 // Marks the shape of this number, where that follows from the marks, and adds it to those that were marked.
@@ -102,27 +60,20 @@ fn mark(
     Ok(order.push(number)?)
 }
 
-// Counts one part less without a mark, and tells whether none is left.
-fn is_last_part(counts: &mut Vec<usize>, number: usize) -> bool {
-    let Some(count) = counts.get_mut(number) else {
-        return false;
-    };
-    *count = count.saturating_sub(1);
-    *count == 0
-}
-
-// Marks those of these shapes for which the last part is marked.
+// Marks those shapes of which the last part without a mark was this one.
 fn mark_users(
+    alloc: Global,
     model: &Model<'_>,
-    users: &[usize],
-    counts: &mut Vec<usize>,
+    users: &mut Users,
+    part: usize,
     marks: &mut Vec<bool>,
     order: &mut Vec<usize>,
 ) -> Result<(), AllocError>
     ensures { OnOk result (Marks (model_view model.now) marks.old.items order.old.items marks.new.items order.new.items) }
 {
-    for user in users {
-        if !is_last_part(counts, *user) {
+    let waiting = users.take(alloc, part);
+    for user in &waiting {
+        if !users.is_last(*user) {
             continue;
         }
         mark(model, marks, order, *user)?;
@@ -152,20 +103,13 @@ pub(crate) fn mark_in_order(
 ) -> Result<(), AllocError>
     ensures { OnOk result ((order : List ℕ) × Marks (model_view model.now) marks.old.items [] marks.new.items order) }
 {
-    let users = users_of(alloc, model)?;
-    let mut counts = part_counts(alloc, model)?;
+    let mut users = users_of(alloc, model)?;
     let mut order = Vec::new(alloc);
     mark_first(model, marks, &mut order)?;
     let mut turn = 0;
     while turn < order.len() {
         let number = order[turn];
-        mark_users(
-            model,
-            users_at(&users, number),
-            &mut counts,
-            marks,
-            &mut order,
-        )?;
+        mark_users(alloc, model, &mut users, number, marks, &mut order)?;
         turn += 1;
     }
     Ok(())

@@ -1,8 +1,8 @@
 //! The shapes that roots reach.
-ghost use Rattle.std.specs.Prelude.{◌≡◌, ◌∷◌, [], true, map, OnOk, IfOk};
+ghost use Rattle.std.specs.Prelude.{◌∷◌, [], map, OnOk, IfOk};
 ghost use Rattle.smithy_model.specs.Views.{model_view, member_view};
 ghost use Rattle.smithy_model_table.specs.Reaching.{held_targets, targets_at, AreReached};
-ghost use Rattle.smithy_model_table.specs.Roles.{AreRolesOf};
+ghost use Rattle.smithy_model_table.specs.Roles.{KnowsRoles};
 ghost use Rattle.smithy_model_table.specs.Views.{bindings_view};
 ghost use Rattle.smithy_model_table.specs.Visiting.{Visits};
 
@@ -69,7 +69,7 @@ fn visit_targets(
     order: &mut Vec<usize>,
     number: usize,
 ) -> Result<(), AllocError>
-    requires { (model_view model.now).has_http_bindings ≡ true → AreRolesOf (model_view model.now) roles.now }
+    requires { KnowsRoles (model_view model.now) roles.now }
     ensures { OnOk result (Visits seen.old.items order.old.items seen.new.items order.new.items (targets_at (model_view model.now) marks.now number)) }
 {
     let Some(shape) = shape_at(model, number) else {
@@ -95,7 +95,7 @@ pub(crate) fn reached(
     marks: &[bool],
     roots: &[usize],
 ) -> Result<Vec<usize>, AllocError>
-    requires { (model_view model.now).has_http_bindings ≡ true → AreRolesOf (model_view model.now) roles.now }
+    requires { KnowsRoles (model_view model.now) roles.now }
     ensures { IfOk result (λ order. AreReached (model_view model.now) marks.now roots.now order.items) }
 {
     let mut seen = Vec::from_elem(alloc, false, model.shapes.len())?;

@@ -1,13 +1,13 @@
 //! Which shapes the operations and the shapes of a model name.
-ghost use Rattle.std.specs.Prelude.{◌≡◌, ◌==◌, ℕ, true, false, map, option_map, bytes_eq, IfOk, OnOk};
+ghost use Rattle.std.specs.Prelude.{◌≡◌, ◌==◌, ◌++◌, ℕ, List, [], ◌∷◌, false, map, option_map, bytes_eq, IfOk, OnOk};
 ghost use Rattle.std.specs.List.{list_any};
 ghost use Rattle.std.specs.Option.{option_map_or};
 ghost use Rattle.smithy_model.specs.Model as kept;
-ghost use Rattle.smithy_model.specs.Views.{model_view, member_view, kind_view, reference_view};
-ghost use Rattle.smithy_model_table.specs.Bindings.{is_input, is_output, is_error, leads_to, is_nested};
-ghost use Rattle.smithy_model_table.specs.Roles.{has_id, has_number, Gains, AreRolesOf};
+ghost use Rattle.smithy_model.specs.Views.{model_view, member_view, kind_view, reference_view, operation_view};
+ghost use Rattle.smithy_model_table.specs.Bindings.{leads_to, is_nested};
+ghost use Rattle.smithy_model_table.specs.Roles.{has_id, has_number, Gains, AreNamedBy, KnowsRoles};
 
-use smithy_model::{Kind, Member, Model, Reference};
+use smithy_model::{Kind, Member, Model, Operation, Reference};
 use std::alloc::{AllocError, Global};
 use std::collections::BTreeSet;
 
@@ -56,39 +56,6 @@ fn add_all(numbers: &mut BTreeSet<usize>, given: &[Reference<'_>]) -> Result<(),
     Ok(())
 }
 
-// The numbers of the inputs of operations.
-fn inputs(alloc: Global, model: &Model<'_>) -> Result<BTreeSet<usize>, AllocError>
-    ensures { IfOk result (λ numbers. (number : ℕ) → has_number numbers number ≡ is_input (model_view model.now) number) }
-{
-    let mut numbers = BTreeSet::new(alloc);
-    for operation in &model.operations {
-        add_given(&mut numbers, &operation.input)?;
-    }
-    Ok(numbers)
-}
-
-// The numbers of the outputs.
-fn outputs(alloc: Global, model: &Model<'_>) -> Result<BTreeSet<usize>, AllocError>
-    ensures { IfOk result (λ numbers. (number : ℕ) → has_number numbers number ≡ is_output (model_view model.now) number) }
-{
-    let mut numbers = BTreeSet::new(alloc);
-    for operation in &model.operations {
-        add_given(&mut numbers, &operation.output)?;
-    }
-    Ok(numbers)
-}
-
-// The numbers of the errors.
-fn errors(alloc: Global, model: &Model<'_>) -> Result<BTreeSet<usize>, AllocError>
-    ensures { IfOk result (λ numbers. (number : ℕ) → has_number numbers number ≡ is_error (model_view model.now) number) }
-{
-    let mut numbers = BTreeSet::new(alloc);
-    for operation in &model.operations {
-        add_all(&mut numbers, &operation.errors)?;
-    }
-    Ok(numbers)
-}
-
 // Adds the targets of these members.
 fn add_members(numbers: &mut BTreeSet<usize>, members: &[Member<'_>]) -> Result<(), AllocError>
     ensures { OnOk result (Gains (λ other. list_any (λ part. part.number == other) (map member_view members.now)) (has_number numbers.old) (has_number numbers.new)) }
@@ -128,7 +95,9 @@ fn nested(alloc: Global, model: &Model<'_>) -> Result<BTreeSet<usize>, AllocErro
 
 impl Roles {
     // None at all.
-    fn none(alloc: Global) -> Roles {
+    fn none(alloc: Global) -> Roles
+        ensures { AreNamedBy [] result }
+    {
         Roles {
             inputs: BTreeSet::new(alloc),
             outputs: BTreeSet::new(alloc),
@@ -137,18 +106,28 @@ impl Roles {
         }
     }
 
+    // Adds the structures of an operation.
+    fn add_operation(&mut self, operation: &Operation<'_>) -> Result<(), AllocError>
+        ensures { OnOk result ((before : List kept.Operation) → AreNamedBy before self.old → AreNamedBy (before ++ operation_view operation.now ∷ []) self.new) }
+    {
+        add_given(&mut self.inputs, &operation.input)?;
+        add_given(&mut self.outputs, &operation.output)?;
+        add_all(&mut self.errors, &operation.errors)?;
+        Ok(())
+    }
+
     /// Those of this model. Without HTTP bindings no one asks for them, and nothing is gathered.
     pub(crate) fn of(alloc: Global, model: &Model<'_>) -> Result<Roles, AllocError>
-        ensures { IfOk result (λ roles. (model_view model.now).has_http_bindings ≡ true → AreRolesOf (model_view model.now) roles) }
+        ensures { IfOk result (KnowsRoles (model_view model.now)) }
     {
+        let mut roles = Roles::none(alloc);
         if !model.has_http_bindings {
-            return Ok(Roles::none(alloc));
+            return Ok(roles);
         }
-        Ok(Roles {
-            inputs: inputs(alloc, model)?,
-            outputs: outputs(alloc, model)?,
-            errors: errors(alloc, model)?,
-            nested: nested(alloc, model)?,
-        })
+        for operation in &model.operations {
+            roles.add_operation(operation)?;
+        }
+        roles.nested = nested(alloc, model)?;
+        Ok(roles)
     }
 }

@@ -1,19 +1,18 @@
 //! The shapes that a table is wanted for.
-ghost use Rattle.std.specs.Prelude.{◌≡◌, ◌≢◌, [], ◌∷◌, Some, None, map, option_map, slice_get, IfOk, IfErr};
+ghost use Rattle.std.specs.Prelude.{◌≡◌, [], ◌∷◌, None, map, option_map, slice_get, IfOk, IfErr, IfSome};
 ghost use Rattle.smithy_model.specs.Reading.{ids_of};
-ghost use Rattle.smithy_model.specs.Views.{model_view, operation_view, reference_view, kind_view};
-ghost use Rattle.smithy_model_table.specs.declared.fault.WantedFault.TheVariants as faults;
+ghost use Rattle.smithy_model.specs.Views.{model_view, operation_view, kind_view};
 ghost use Rattle.smithy_model_table.specs.Views.{wanted_view};
 ghost use Rattle.smithy_model_table.specs.Naming.{is_declared};
-ghost use Rattle.smithy_model_table.specs.Finding.{IsOfSearch};
-ghost use Rattle.smithy_model_table.specs.Wanted.{shape, IsIdNamed, IsDeclared, IsOperationNamed, HasNotOne, IsUnknown, operation_ids, body_if, AreRoots, LacksName, HasNoDeclaration};
+ghost use Rattle.smithy_model_table.specs.Finding.{RefusesSearch};
+ghost use Rattle.smithy_model_table.specs.Wanted.{shape, IsIdNamed, IsDeclared, IsOperationNamed, HasNotOne, IsUnknown, operation_ids, AreRoots};
 
 use crate::bodies::{body_if, service_roots};
 use crate::carried::is_marked;
 use crate::fault::WantedFault;
-use crate::finding::{operation_ids, place_of, place_of_only, shape_ids};
+use crate::finding::{operation_ids, place_of_only, shape_ids};
 use crate::places::shape_at;
-use smithy_model::{Kind, Model, Operation, Reference};
+use smithy_model::{Kind, Model, Operation, place_of};
 use std::alloc::{AllocError, Global};
 
 /// What a table is wanted for.
@@ -43,17 +42,13 @@ pub(crate) fn is_declared(kind: &Kind<'_>) -> bool
 }
 
 // The number of the shape of this id, or of the only one of this name. `ids` are those of the model's shapes.
-fn find_shape(ids: &[&str], name: &str) -> Result<usize, WantedFault>
-    ensures found { IfOk result (IsIdNamed (map (λ t. t.now) ids.now) name.now) }
-    ensures refused { IfErr result (λ fault. (fault ≡ faults.NoSuchName) × IsUnknown (map (λ t. t.now) ids.now) name.now × HasNotOne (map (λ t. t.now) ids.now) name.now) }
-    ensures of_search { IfErr result IsOfSearch }
+fn find_shape(ids: &[&str], name: &str) -> Option<usize>
+    ensures found { IfSome result (IsIdNamed (map (λ t. t.now) ids.now) name.now) }
+    ensures unknown { result ≡ None → IsUnknown (map (λ t. t.now) ids.now) name.now × HasNotOne (map (λ t. t.now) ids.now) name.now }
 {
-    if let Some(number) = place_of(ids, name) {
-        return Ok(number);
-    }
-    match place_of_only(ids, name) {
-        Some(number) => Ok(number),
-        None => Err(WantedFault::NoSuchName),
+    match place_of(ids, name) {
+        Some(number) => Some(number),
+        None => place_of_only(ids, name),
     }
 }
 
@@ -66,11 +61,11 @@ fn find_declared(
 ) -> Result<usize, WantedFault>
     requires { map (λ t. t.now) ids.now ≡ ids_of (model_view model.now).shapes }
     ensures found { IfOk result (IsDeclared (model_view model.now) marks.now name.now) }
-    ensures lacks { IfErr result (λ fault. fault ≡ faults.NoSuchName → LacksName (model_view model.now) (shape name.now)) }
-    ensures undeclared { IfErr result (λ fault. fault ≡ faults.NoDeclaration → HasNoDeclaration (model_view model.now) marks.now (shape name.now)) }
-    ensures of_search { IfErr result IsOfSearch }
+    ensures refused { IfErr result (RefusesSearch (model_view model.now) marks.now (shape name.now)) }
 {
-    let number = find_shape(ids, name)?;
+    let Some(number) = find_shape(ids, name) else {
+        return Err(WantedFault::NoSuchName);
+    };
     let Some(shape) = shape_at(model, number) else {
         return Err(WantedFault::NoDeclaration);
     };
@@ -95,33 +90,15 @@ fn find_operation<'m, 'a>(
     alloc: Global,
     model: &'m Model<'a>,
     name: &str,
-) -> Result<&'m Operation<'a>, WantedFault>
-    ensures found { IfOk result (λ o. IsOperationNamed (model_view model.now) name.now (operation_view o.now)) }
-    ensures lacks { IfErr result (λ fault. fault ≡ faults.NoSuchName → HasNotOne (operation_ids (model_view model.now)) name.now) }
-    ensures named { IfErr result (λ fault. fault ≢ faults.NoDeclaration) }
-    ensures of_search { IfErr result IsOfSearch }
+) -> Result<Option<&'m Operation<'a>>, AllocError>
+    ensures found { IfOk result (λ found. IfSome found (λ o. IsOperationNamed (model_view model.now) name.now (operation_view o.now))) }
+    ensures lacks { IfOk result (λ found. found ≡ None → HasNotOne (operation_ids (model_view model.now)) name.now) }
 {
     let ids = operation_ids(alloc, model)?;
     let Some(number) = place_of_only(&ids, name) else {
-        return Err(WantedFault::NoSuchName);
+        return Ok(None);
     };
-    match operation_at(model, number) {
-        Some(operation) => Ok(operation),
-        None => Err(WantedFault::NoDeclaration),
-    }
-}
-
-// The body of what an operation refers to.
-fn body(model: &Model<'_>, given: &Option<Reference<'_>>) -> Result<usize, WantedFault>
-    ensures found { IfOk result (λ root. body_if (model_view model.now) (option_map reference_view given.now) ≡ Some root) }
-    ensures named { IfErr result (λ fault. fault ≢ faults.NoSuchName) }
-    ensures undeclared { IfErr result (λ fault. body_if (model_view model.now) (option_map reference_view given.now) ≡ None) }
-    ensures of_search { IfErr result IsOfSearch }
-{
-    match body_if(model, given) {
-        Some(root) => Ok(root),
-        None => Err(WantedFault::NoDeclaration),
-    }
+    Ok(operation_at(model, number))
 }
 
 // The one number.
@@ -141,19 +118,25 @@ pub(crate) fn roots_of(
     wanted: Wanted<'_>,
 ) -> Result<Vec<usize>, WantedFault>
     ensures roots { IfOk result (λ roots. AreRoots (model_view model.now) marks.now (wanted_view wanted.entry) roots.items) }
-    ensures lacks { IfErr result (λ fault. fault ≡ faults.NoSuchName → LacksName (model_view model.now) (wanted_view wanted.entry)) }
-    ensures undeclared { IfErr result (λ fault. fault ≡ faults.NoDeclaration → HasNoDeclaration (model_view model.now) marks.now (wanted_view wanted.entry)) }
-    ensures of_search { IfErr result IsOfSearch }
+    ensures refused { IfErr result (RefusesSearch (model_view model.now) marks.now (wanted_view wanted.entry)) }
 {
     match wanted {
         Wanted::Input(name) => {
-            let operation = find_operation(alloc, model, name)?;
-            let number = body(model, &operation.input)?;
+            let Some(operation) = find_operation(alloc, model, name)? else {
+                return Err(WantedFault::NoSuchName);
+            };
+            let Some(number) = body_if(model, &operation.input) else {
+                return Err(WantedFault::NoDeclaration);
+            };
             Ok(one(alloc, number)?)
         }
         Wanted::Output(name) => {
-            let operation = find_operation(alloc, model, name)?;
-            let number = body(model, &operation.output)?;
+            let Some(operation) = find_operation(alloc, model, name)? else {
+                return Err(WantedFault::NoSuchName);
+            };
+            let Some(number) = body_if(model, &operation.output) else {
+                return Err(WantedFault::NoDeclaration);
+            };
             Ok(one(alloc, number)?)
         }
         Wanted::Shape(name) => {

@@ -13,4 +13,4 @@ returns-in_err-take_in-clause-refused c =
     let p = err_from_is_err_and c.from_residual.result c.from_residual.ensures.1 in
     rw (p.1, p.2)
     (refused_before (map shape_view c.args.shapes.now.items) (map shape_view c.loop-user.shapes.items) c.args.done.now.items c.loop-user.done.items
-    c.in_err-take_in.field-0.0 c.loop-user.invariant.uses c.loop-user.invariant.mixed c.in_err-take_in.ensures.refused)
+    c.in_err-take_in.field-0.0 c.loop-user.invariant.uses c.loop-user.invariant.mixed c.in_err-take_in.ensures.taken.refused)

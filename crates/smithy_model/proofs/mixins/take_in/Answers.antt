@@ -11,8 +11,8 @@ use Rattle.smithy_model.proofs.Put.{got_same}
 use Rattle.smithy_model.proofs.Mixing.{at_item, waits_at, taken_in, one_fewer, uses_set, map_set, settled_here, refused_here}
 use Rattle.smithy_model.proofs.mixins.take_in.Goals as goal
 
-pub returns-clause-mixed : goal.returns-clause-mixed
-returns-clause-mixed c =
+pub returns-clause-taken : goal.returns-clause-taken
+returns-clause-taken c =
     let ws = c.args.shapes.now.items in
     let done = c.args.done.now.items in
     let n = c.args.number in
@@ -30,20 +30,15 @@ returns-clause-mixed c =
     let waits : is_done done n ≡ false = waits_at done n c.index.result.now within_done c.index.ensures c.if-index.false in
     let made : IsWith (shape_view u) found.0 (shape_view c.give.new.shape) =
     (sym (ap (λ g. g.agrees) found.2) ∙ found.3, c.give.ensures ∙ ap (with_gathered (shape_view u)) found.2) in
-    λ own half.
-    subst (λ ss. AreHalfMixed own ss (set done n true)) (sym (map_set shape_view ws n c.give.new.shape))
-    (taken_in own (map shape_view ws) done n (shape_view u) (shape_view c.give.new.shape) found.0 (at_item shape_view ws n u within c.index_mut.ensures.value)
-    within_done waits found.1 made half)
-
-pub returns-clause-uses : goal.returns-clause-uses
-returns-clause-uses c =
-    let ws = c.args.shapes.now.items in
-    let n = c.args.number in
-    let within : n < length ws = search rules in
-    let u = c.index_mut.result.now in
     let at : slice_get (map shape_view ws) n ≡ Some (shape_view u) = at_item shape_view ws n u within c.index_mut.ensures.value in
-    ap uses_of (map_set shape_view ws n c.give.new.shape)
-    ∙ uses_set (map shape_view ws) n (shape_view u) (shape_view c.give.new.shape) at (ap (λ (s : Shape). s.id) c.give.ensures) (ap (λ (s : Shape). s.mixins) c.give.ensures)
+    record {
+      mixed = λ own half.
+          subst (λ ss. AreHalfMixed own ss (set done n true)) (sym (map_set shape_view ws n c.give.new.shape))
+          (taken_in own (map shape_view ws) done n (shape_view u) (shape_view c.give.new.shape) found.0 at within_done waits found.1 made half);
+      uses = ap uses_of (map_set shape_view ws n c.give.new.shape)
+          ∙ uses_set (map shape_view ws) n (shape_view u) (shape_view c.give.new.shape) at (ap (λ (s : Shape). s.id) c.give.ensures) (ap (λ (s : Shape). s.mixins) c.give.ensures);
+      refused = tt;
+    }
 
 pub returns-clause-fewer : goal.returns-clause-fewer
 returns-clause-fewer c =
@@ -62,8 +57,8 @@ returns-in_default-clause-held_up c =
     (subst (λ (ds : List Bool). IsHeldUp (map shape_view c.deref.result.now) ds (shape_view u)) c.deref-2.ensures.value (c.in_ok-gathered.ensures.held_up c.in_default.is)) in
     λ same. (refl, refl, settled_here (map shape_view ws) done n (shape_view u) (at_item shape_view ws n u within c.index-2.ensures) held)
 
-pub returns-in_err-gathered-clause-refused : goal.returns-in_err-gathered-clause-refused
-returns-in_err-gathered-clause-refused c =
+pub returns-in_err-gathered-clause-taken : goal.returns-in_err-gathered-clause-taken
+returns-in_err-gathered-clause-taken c =
     let p = err_from_is_err_and c.from_residual.result c.from_residual.ensures.1 in
     let ws = c.args.shapes.now.items in
     let n = c.args.number in
@@ -78,4 +73,4 @@ returns-in_err-gathered-clause-refused c =
     subst (λ (ds : List Bool). RefusesOne (map shape_view ws) ds (shape_view u) fault) c.deref-2.ensures.value
     (subst (λ (xs : List kept.Shape). slice_get (map shape_view xs) n ≡ Some (shape_view u) → RefusesOne (map shape_view xs) c.deref-2.result.now (shape_view u) fault)
     c.deref.ensures.value (c.in_err-gathered.ensures.refused n) at) in
-    rw (p.1, p.2) (refused_here (map shape_view ws) done n (shape_view u) fault at waits one)
+    rw (p.1, p.2) (record { mixed = tt; uses = tt; refused = refused_here (map shape_view ws) done n (shape_view u) fault at waits one })

@@ -33,7 +33,7 @@ returns-clause-mixed c =
     let first = subst (λ (xs : List kept.Shape). c.in_ok-done.done.items ≡ map (λ (s : Shape). not (takes_mixins s)) (map shape_view xs)) c.deref.ensures.value
     c.in_ok-done.ensures in
     let shapes = c.take_in_all.new.shapes.items in
-    let half = c.in_ok-take_in_all.ensures.mixed own (c.in_ok-take_in_order.ensures.mixed own (half_at_first own c.in_ok-done.done.items first)) in
+    let half = c.in_ok-take_in_all.ensures.taken.mixed own (c.in_ok-take_in_order.ensures.mixed own (half_at_first own c.in_ok-done.done.items first)) in
     let all : (k : ℕ) → k < length shapes → is_done c.take_in_all.new.done.items k ≡ true =
     subst (λ (ds : List Bool). (k : ℕ) → k < length shapes → is_done ds k ≡ true) c.deref-6.ensures.value
     (subst (λ (xs : List kept.Shape). (k : ℕ) → k < length xs → is_done c.deref-6.result.now k ≡ true) c.deref-5.ensures.value (c.waiting-2.ensures.none c.in-None.is)) in
@@ -57,7 +57,7 @@ returns-in_err-take_in_all-clause-refused c =
     rw (p.1, p.2)
     (all_refused own c.in_ok-done.done.items c.in_err-take_in_all.field-0.0 (half_at_first own c.in_ok-done.done.items first)
     (refused_before own (map shape_view c.take_in_order.new.shapes.items) c.in_ok-done.done.items c.take_in_order.new.done.items c.in_err-take_in_all.field-0.0
-    c.in_ok-take_in_order.ensures.uses c.in_ok-take_in_order.ensures.mixed c.in_err-take_in_all.ensures.refused))
+    c.in_ok-take_in_order.ensures.uses c.in_ok-take_in_order.ensures.mixed c.in_err-take_in_all.ensures.taken.refused))
 
 pub returns-in-Some-waiting-clause-refused : goal.returns-in-Some-waiting-clause-refused
 returns-in-Some-waiting-clause-refused c =
@@ -65,7 +65,7 @@ returns-in-Some-waiting-clause-refused c =
     let first = subst (λ (xs : List kept.Shape). c.in_ok-done.done.items ≡ map (λ (s : Shape). not (takes_mixins s)) (map shape_view xs)) c.deref.ensures.value
     c.in_ok-done.ensures in
     let shapes = c.take_in_all.new.shapes.items in
-    let half = c.in_ok-take_in_all.ensures.mixed own (c.in_ok-take_in_order.ensures.mixed own (half_at_first own c.in_ok-done.done.items first)) in
+    let half = c.in_ok-take_in_all.ensures.taken.mixed own (c.in_ok-take_in_order.ensures.mixed own (half_at_first own c.in_ok-done.done.items first)) in
     let waits = subst (λ (ds : List Bool). IsWaiting (map shape_view shapes) ds c.in-Some-waiting.id.now) c.deref-6.ensures.value
     (subst (λ (xs : List kept.Shape). IsWaiting (map shape_view xs) c.deref-6.result.now c.in-Some-waiting.id.now) c.deref-5.ensures.value c.in-Some-waiting.ensures.one) in
     inr (inl (circle_left own (map shape_view shapes) c.take_in_all.new.done.items c.in-Some-waiting.id.now half c.in_ok-take_in_all.ensures.held_up waits))

@@ -8,12 +8,14 @@ use Rattle.smithy_model.proofs.AllSome.{among_more}
 use Rattle.smithy_model.proofs.Refusals.{operations_refused}
 use Rattle.smithy_model.proofs.parts.read_operations.Goals as goal
 
-pub returns-in_err-add_operation-clause-refused : goal.returns-in_err-add_operation-clause-refused
-returns-in_err-add_operation-clause-refused c =
+pub returns-in_err-add_operation : goal.returns-in_err-add_operation
+returns-in_err-add_operation c =
     let p = err_from_is_err_and c.from_residual.result c.from_residual.ensures.1 in
-    rw (p.1, p.2)
-    (operations_refused (form_view c.args.format) c.args.entries.now c.loop-id.id-index c.loop-id-item.result c.loop-id-test.true c.loop-id-item.is
-    c.in_err-add_operation.field-0.0 c.in_err-add_operation.ensures.refused)
+    rw (p.1, p.2) (record {
+      read = tt;
+      refused = operations_refused (form_view c.args.format) c.args.entries.now c.loop-id.id-index c.loop-id-item.result c.loop-id-test.true c.loop-id-item.is
+          c.in_err-add_operation.field-0.0 c.in_err-add_operation.ensures.refused;
+    })
 
 pub loop-id-preserved : goal.loop-id-preserved
 loop-id-preserved c =

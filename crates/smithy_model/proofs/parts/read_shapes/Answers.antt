@@ -8,12 +8,14 @@ use Rattle.smithy_model.proofs.AllSome.{among_more}
 use Rattle.smithy_model.proofs.Refusals.{shapes_refused}
 use Rattle.smithy_model.proofs.parts.read_shapes.Goals as goal
 
-pub returns-in_err-add_shape-clause-refused : goal.returns-in_err-add_shape-clause-refused
-returns-in_err-add_shape-clause-refused c =
+pub returns-in_err-add_shape : goal.returns-in_err-add_shape
+returns-in_err-add_shape c =
     let p = err_from_is_err_and c.from_residual.result c.from_residual.ensures.1 in
-    rw (p.1, p.2)
-    (shapes_refused (form_view c.args.format) c.args.entries.now c.loop-id.id-index c.loop-id-item.result c.loop-id-test.true c.loop-id-item.is
-    c.in_err-add_shape.field-0.0 c.in_err-add_shape.ensures.refused)
+    rw (p.1, p.2) (record {
+      read = tt;
+      refused = shapes_refused (form_view c.args.format) c.args.entries.now c.loop-id.id-index c.loop-id-item.result c.loop-id-test.true c.loop-id-item.is
+          c.in_err-add_shape.field-0.0 c.in_err-add_shape.ensures.refused;
+    })
 
 pub loop-id-preserved : goal.loop-id-preserved
 loop-id-preserved c =

@@ -1,13 +1,13 @@
-use Rattle.std.proofs.Common.{◌≡◌, ◌≤◌, List, ℕ, length, map, subst, rules, arith}
+use Rattle.std.proofs.Common.{◌≤◌, List, ℕ, length, map, subst, rules, arith}
 use Rattle.std.specs.Prelude.{Bool}
 use Rattle.std.proofs.lemmas.List.{length-map}
 use Rattle.std.proofs.lemmas.Result.{err_from_is_err_and}
 use Rattle.smithy_model.specs.Views.{model_view, shape_view}
 use Rattle.smithy_declarations.specs.DeclViews.{decl_of}
-use Rattle.smithy_model_table.specs.declared.fault.WantedFault.TheVariants as faults
 use Rattle.smithy_model_table.specs.Outcomes.{AreParts}
 use Rattle.smithy_model_table.specs.Reaching.{AreReached}
-use Rattle.smithy_model_table.specs.Wanted.{AreRoots, HasNoDeclaration}
+use Rattle.smithy_model_table.specs.Wanted.{AreRoots}
+use Rattle.smithy_model_table.specs.Finding.{RefusesSearch}
 use Rattle.smithy_model_table.specs.ModelTable.{most_shapes}
 use Rattle.smithy_model_table.specs.Views.{names_view, left_view, wanted_view}
 use Rattle.smithy_model_table.proofs.Refused.{made_of, roots_refused}
@@ -40,7 +40,5 @@ returns-in_err-roots-clause-refused c =
     let m = model_view c.args.model.now in
     let w = wanted_view c.args.wanted in
     let fault = c.in_err-roots.field-0.0 in
-    let undeclared = subst (λ (ms : List Bool). fault ≡ faults.NoDeclaration → HasNoDeclaration m ms w) c.deref.ensures.value
-    c.in_err-roots.ensures.undeclared in
-    rw (p.1, p.2)
-    (roots_refused m c.in_ok-marks.marks.items w fault c.in_ok-marks.ensures c.in_err-roots.ensures.of_search c.in_err-roots.ensures.lacks undeclared)
+    let refused = subst (λ (ms : List Bool). RefusesSearch m ms w fault) c.deref.ensures.value c.in_err-roots.ensures.refused in
+    rw (p.1, p.2) (roots_refused m c.in_ok-marks.marks.items w fault c.in_ok-marks.ensures refused)

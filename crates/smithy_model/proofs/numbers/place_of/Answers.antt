@@ -1,6 +1,6 @@
 use Rattle.std.proofs.Common.{◌∙◌, sym}
-use Rattle.smithy_model_table.proofs.Found.{found_at}
-use Rattle.smithy_model_table.proofs.finding.place_of.Goals as goal
+use Rattle.smithy_model.proofs.Ids.{found_at}
+use Rattle.smithy_model.proofs.numbers.place_of.Goals as goal
 
 pub returns-then-eq-clause-found : goal.returns-then-eq-clause-found
 returns-then-eq-clause-found c =

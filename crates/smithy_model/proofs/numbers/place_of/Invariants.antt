@@ -1,6 +1,6 @@
 use Rattle.std.proofs.Common.{◌≡◌, map, drop, bytes_eq}
 use Rattle.std.specs.List.{list_any}
-use Rattle.smithy_model.proofs.numbers.find.Given as goal
+use Rattle.smithy_model.proofs.numbers.place_of.Given as goal
 
 abbrev pub invariant-loop-number : goal.invariant-loop-number
 invariant-loop-number l =
