@@ -50,16 +50,20 @@ impl<'a> CborDeserializer<'a> {
 }
 
 impl ShapeDeserializer for CborDeserializer<'_> {
-    ghost use Rattle.std.specs.Prelude.{◌≡◌, ℕ, IfOk, IsOk, IsErr, IsErrOf, true, false, refl};
+    ghost use Rattle.std.specs.Prelude.{◌≡◌, ℕ, FitsSigned, IfOk, IsOk, IsErr, IsErrOf, true, false, refl};
     ghost use Rattle.smithy_schema.specs.Errors.{IsInvalid};
     ghost use Rattle.smithy_schema.specs.Containers.{GoesOnInStructure};
     ghost use Rattle.smithy_schema.specs.Passing.{ReadsNull, SkipsValue};
-    ghost use Rattle.smithy_schema.specs.Reading.{depth, in_structure, null_is_due, ReadsScalar, ReadsDocument, AnswersUncarried, SkipsNot};
+    ghost use Rattle.smithy_schema.specs.Reading.{depth, in_structure, null_is_due, ReadsScalar, ReadsDocument, AnswersWide, AnswersUncarried, SkipsNot};
     ghost use Rattle.smithy_declarations.specs.Table.{HasMembers};
     ghost use Rattle.smithy_shapes.specs.Site.{site_of, kind_at};
     ghost use Rattle.smithy_schema.specs.declared.error.SerdeError.TheVariants.{NoMemory, NotCarried, TooDeep};
     ghost use Rattle.smithy_declarations.specs.declared.shape_type.Scalar.TheVariants as scalars;
-    ghost use Rattle.smithy_declarations.specs.Value.{instant};
+    ghost use Rattle.smithy_declarations.specs.Value.{instant, whole, decimal};
+    ghost use Rattle.std.specs.Fmt.{signed_decimal};
+    ghost use Rattle.std.specs.Int.{w128};
+    ghost use Rattle.smithy_texts.specs.Numeral.{number};
+    ghost use Rattle.smithy_texts.specs.Decimal.{mantissa, net_exponent, decimal_text};
     ghost use Rattle.smithy_cbor_codec.specs.Cursor.{cursor_of, reading_settings_of};
     ghost use Rattle.smithy_cbor_values.specs.Settings.{Settings, keep_limits, without_limits};
     ghost use Rattle.smithy_cbor_values.specs.Standing.{cbor_relations, cbor_reader};
@@ -315,7 +319,15 @@ impl ShapeDeserializer for CborDeserializer<'_> {
         self.walk.take_found(found)
     }
 
-    fn read_big_integer(&mut self, _schema: &Schema<'_>) -> Result<BigInteger, SerdeError> {
+    fn read_big_integer(&mut self, _schema: &Schema<'_>) -> Result<BigInteger, SerdeError>
+        ensures same { reading_settings_of self.new ≡ reading_settings_of self.old }
+        ensures read { ReadsScalar (cbor_relations (keep_limits (reading_settings_of self.old))) (cbor_relations (without_limits (reading_settings_of self.old))) ((reading_settings_of self.old).enforce_strictness ≡ true) (cursor_of self.old) (cursor_of self.new) (site_of _schema.now) scalars.BigInteger (λ n. whole (number n)) result }
+        ensures wide { AnswersWide (cbor_relations (keep_limits (reading_settings_of self.old))) (cursor_of self.old) (site_of _schema.now) scalars.BigInteger result }
+        ensures fits { IfOk result (λ n. FitsSigned w128 (number n)) }
+
+        // The text is the one that a number without a text is written as.
+        ensures text { IfOk result (λ n. n ≡ signed_decimal (number n)) }
+    {
         self.walk.ready()?;
         let found = big_integer_at(
             self.alloc,
@@ -326,7 +338,15 @@ impl ShapeDeserializer for CborDeserializer<'_> {
         self.walk.take_within(found, SerdeError::TooWide)
     }
 
-    fn read_big_decimal(&mut self, _schema: &Schema<'_>) -> Result<BigDecimal, SerdeError> {
+    fn read_big_decimal(&mut self, _schema: &Schema<'_>) -> Result<BigDecimal, SerdeError>
+        ensures same { reading_settings_of self.new ≡ reading_settings_of self.old }
+        ensures read { ReadsScalar (cbor_relations (keep_limits (reading_settings_of self.old))) (cbor_relations (without_limits (reading_settings_of self.old))) ((reading_settings_of self.old).enforce_strictness ≡ true) (cursor_of self.old) (cursor_of self.new) (site_of _schema.now) scalars.BigDecimal (λ n. decimal (mantissa n) (net_exponent n)) result }
+        ensures wide { AnswersWide (cbor_relations (keep_limits (reading_settings_of self.old))) (cursor_of self.old) (site_of _schema.now) scalars.BigDecimal result }
+        ensures fits { IfOk result (λ n. FitsSigned w128 (mantissa n)) }
+
+        // The text is the one that a number without a text is written as.
+        ensures text { IfOk result (λ n. n ≡ decimal_text (mantissa n) (net_exponent n)) }
+    {
         self.walk.ready()?;
         let found = big_decimal_at(
             self.alloc,

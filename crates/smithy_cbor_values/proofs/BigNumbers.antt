@@ -7,7 +7,7 @@ use Rattle.std.proofs.lemmas.Int.{ints}
 use Rattle.std.specs.Int.{w128}
 use Rattle.std.proofs.lemmas.Bool.{cases_Bool, and_parts, ltb-true}
 use Rattle.smithy_texts.specs.Numeral.{number}
-use Rattle.smithy_texts.specs.Decimal.{DecimalForm, mantissa, net_exponent}
+use Rattle.smithy_texts.specs.Decimal.{DecimalForm, mantissa, net_exponent, decimal_text}
 use Rattle.smithy_texts.specs.Ranges.{fits_signed, is_exponent}
 use Rattle.smithy_texts.proofs.WrittenNumerals.{fits_signed-wide, small_wide, small_exponent, written_number, written_parts}
 use Rattle.smithy_declarations.specs.declared.shape_type.Scalar.{Scalar}
@@ -95,6 +95,9 @@ integer_read t input at e (z, (i, there, is), fits, text_is) = record {
 pub integer_fits : (t input : List ℕ) (at e : ℕ) → IsBigIntegerText t input at e → FitsSigned w128 (number t)
 integer_fits t input at e (z, there, fits, text_is) = subst (FitsSigned w128) (sym (text_number z t fits text_is)) fits
 
+pub integer_text : (t input : List ℕ) (at e : ℕ) → IsBigIntegerText t input at e → t ≡ signed_decimal (number t)
+integer_text t input at e (z, there, fits, text_is) = text_is ∙ ap signed_decimal (sym (text_number z t fits text_is))
+
 none_or : {A B : Type 0} (f : Option A → Answer B) (o : Option A) → f None ≡ no_meaning → ((a : A) → o ≡ Some a → ⊥) → f o ≡ no_meaning
 none_or f None is never = is
 none_or f (Some a) is never = absurd (never a refl)
@@ -163,6 +166,11 @@ pub decimal_fits : (t input : List ℕ) (at e : ℕ) → IsDecimalText t input a
 decimal_fits t input at e (x, m, there, fits, text_is) =
     let w = written_parts m x (small_wide m fits.1) (small_exponent x fits.0) in
     subst (FitsSigned w128) (sym (ap mantissa text_is ∙ w.mantissa_is)) fits.1
+
+pub decimal_is_text : (t input : List ℕ) (at e : ℕ) → IsDecimalText t input at e → t ≡ decimal_text (mantissa t) (net_exponent t)
+decimal_is_text t input at e (x, m, there, fits, text_is) =
+    let w = written_parts m x (small_wide m fits.1) (small_exponent x fits.0) in
+    text_is ∙ ap (λ n. decimal_text n x) (sym (ap mantissa text_is ∙ w.mantissa_is)) ∙ ap (decimal_text (mantissa t)) (sym (ap net_exponent text_is ∙ w.net_is))
 
 pub decimal_refused : (input : List ℕ) (at : ℕ) (kind : DecodeKind) → IsDecimalFault input at kind → (kind ≡ kinds.TooWide → ⊥) → (kind ≡ kinds.NoMemory → ⊥)
     → NoneOf scalars.BigDecimal input at

@@ -1,11 +1,12 @@
 //! Big numbers that stand at a place of an input.
 
-ghost use Rattle.std.specs.Prelude.{◌≤◌, length, IfOk, FitsSigned};
+ghost use Rattle.std.specs.Prelude.{◌≡◌, ◌≤◌, length, IfOk, FitsSigned};
+ghost use Rattle.std.specs.Fmt.{signed_decimal};
 ghost use Rattle.std.specs.Int.{w128};
 ghost use Rattle.smithy_declarations.specs.declared.shape_type.Scalar.TheVariants as scalars;
 ghost use Rattle.smithy_declarations.specs.Value.{whole, decimal};
 ghost use Rattle.smithy_texts.specs.Numeral.{number as number_of};
-ghost use Rattle.smithy_texts.specs.Decimal.{mantissa, net_exponent};
+ghost use Rattle.smithy_texts.specs.Decimal.{mantissa, net_exponent, decimal_text};
 ghost use Rattle.smithy_cbor_values.specs.Private.ScalarAtPlace.{MeansAt, ExceedsAt, NothingAt, IsUnread};
 ghost use Rattle.smithy_wire.specs.Finding.{MatchFound};
 
@@ -51,6 +52,7 @@ pub fn big_integer_at(
     ensures found { IfOk result (λ f. MatchFound f (λ r. MeansAt scalars.BigInteger input.now at depth (whole (number_of r.0)) r.1)
         (NothingAt scalars.BigInteger input.now at depth) (ExceedsAt scalars.BigInteger input.now at depth)) }
     ensures fits { IfOk result (λ f. MatchFound f (λ r. FitsSigned w128 (number_of r.0)) (Unit {0}) (Unit {0})) }
+    ensures text { IfOk result (λ f. MatchFound f (λ r. r.0 ≡ signed_decimal (number_of r.0)) (Unit {0}) (Unit {0})) }
 {
     let mut decoder = decoder_at(input, at);
     match decoder.big_integer(alloc) {
@@ -76,6 +78,7 @@ pub fn big_decimal_at(
     ensures found { IfOk result (λ f. MatchFound f (λ r. MeansAt scalars.BigDecimal input.now at depth (decimal (mantissa r.0) (net_exponent r.0)) r.1)
         (NothingAt scalars.BigDecimal input.now at depth) (ExceedsAt scalars.BigDecimal input.now at depth)) }
     ensures fits { IfOk result (λ f. MatchFound f (λ r. FitsSigned w128 (mantissa r.0)) (Unit {0}) (Unit {0})) }
+    ensures text { IfOk result (λ f. MatchFound f (λ r. r.0 ≡ decimal_text (mantissa r.0) (net_exponent r.0)) (Unit {0}) (Unit {0})) }
 {
     let mut decoder = decoder_at(input, at);
     match decoder.big_decimal(alloc) {

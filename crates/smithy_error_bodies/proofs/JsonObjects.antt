@@ -10,7 +10,7 @@ use Rattle.smithy_json_grammar.specs.HeldNumber.{number_of}
 use Rattle.smithy_json_grammar.specs.Unescape.{unescaped}
 use Rattle.smithy_json_tokens.specs.Tokens as tokens
 use Rattle.smithy_json_tokens.specs.Tokens.{JsonToken, start_array, start_object, value_null, value_bool, value_number, value_uncarried, value_string, object_key, tokens, element_tokens, member_tokens, number_token}
-use Rattle.smithy_json_tokens.specs.TokenRules.{Cursor, finished, found, refused, next_answer}
+use Rattle.smithy_json_tokens.specs.TokenRules.{Cursor, Answer, finished, found, refused, next_answer, FindsContainer}
 use Rattle.smithy_json_tokens.specs.TokenRuns.{start, Leads}
 use Rattle.smithy_json_tokens.specs.declared.error.DeserializeErrorKind.{DeserializeErrorKind}
 use Rattle.smithy_error_bodies.specs.Said.{Said, nothing_said, is_code, is_type, is_message, first_of}
@@ -408,3 +408,16 @@ each_ok P Q (Err e) f h = tt
 pub each_err : {A E : Type 0} (P Q : E → Type 0) (r : Result A E) → ((e : E) → P e → Q e) → IfErr r P → IfErr r Q
 each_err P Q (Ok x) f h = tt
 each_err P Q (Err e) f h = f e h
+
+-- a token that begins an object begins a container
+pub object_container : (a : Answer) (t : JsonToken) (here : List ℕ) (c : Cursor) → a ≡ found t here c → begins_object t ≡ true → FindsContainer a
+object_container a start_object here c is begins = subst FindsContainer (sym is) tt
+object_container a start_array here c is begins = absurd (cc (begins))
+object_container a tokens.end_array here c is begins = absurd (cc (begins))
+object_container a tokens.end_object here c is begins = absurd (cc (begins))
+object_container a value_null here c is begins = absurd (cc (begins))
+object_container a (value_bool b) here c is begins = absurd (cc (begins))
+object_container a (value_number n) here c is begins = absurd (cc (begins))
+object_container a (value_uncarried raw) here c is begins = absurd (cc (begins))
+object_container a (value_string raw) here c is begins = absurd (cc (begins))
+object_container a (object_key raw) here c is begins = absurd (cc (begins))

@@ -1,5 +1,5 @@
 //! Error bodies in CBOR.
-ghost use Rattle.std.specs.Prelude.{◌≡◌, true, false, Some, None, IfOk, IfErr, OnOk, option_map, string_bytes};
+ghost use Rattle.std.specs.Prelude.{◌≡◌, ◌≢◌, [], true, false, Some, None, IfOk, IfErr, OnOk, OnErr, option_map, string_bytes};
 ghost use Rattle.smithy_cbor.specs.DecoderView.{input_of, position_of, Reads};
 ghost use Rattle.smithy_cbor.specs.declared.error.DecodeKind.TheVariants.{WrongType};
 ghost use Rattle.smithy_error_bodies.specs.Said.{said_by, nothing_said};
@@ -175,6 +175,8 @@ fn read_map<'b>(
 pub fn read_cbor_error(alloc: Global, body: &[u8]) -> Result<ErrorBody, ErrorBodyFault>
     ensures ok { IfOk result (λ said. CborSays body.now (Some (said_by said))) }
     ensures err { IfErr result (λ e. e ≡ InvalidInput → CborSays body.now None) }
+    // An empty body takes no memory.
+    ensures memory { OnErr result (body.now ≢ []) }
 {
     if body.is_empty() {
         return Ok(ErrorBody::nothing());

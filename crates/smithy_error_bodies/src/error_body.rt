@@ -1,5 +1,5 @@
 //! What a body says, and why nothing can be read.
-ghost use Rattle.std.specs.Prelude.{◌≡◌};
+ghost use Rattle.std.specs.Prelude.{◌≡◌, ◌≢◌, ◌↔◌};
 ghost use Rattle.smithy_cbor.specs.declared.error.DecodeKind.TheVariants as cbor;
 ghost use Rattle.smithy_json_tokens.specs.declared.error.DeserializeErrorKind.TheVariants as json;
 ghost use Rattle.smithy_error_bodies.specs.declared.error_body.ErrorBodyFault.TheVariants.{InvalidInput, NoMemory};
@@ -59,7 +59,7 @@ impl<T: Drop> From<AllocFailed<T>> for ErrorBodyFault {
 }
 
 impl From<DeserializeError> for ErrorBodyFault {
-    ghost from_gives = { λ error e. e ≡ InvalidInput → error.kind ≡ json.NoMemory → ⊥ };
+    ghost from_gives = { λ error e. (e ≡ InvalidInput) ↔ (error.kind ≢ json.NoMemory) };
 
     fn from(error: DeserializeError) -> ErrorBodyFault {
         if matches!(error.kind, DeserializeErrorKind::NoMemory) {
@@ -70,7 +70,7 @@ impl From<DeserializeError> for ErrorBodyFault {
 }
 
 impl From<DecodeError> for ErrorBodyFault {
-    ghost from_gives = { λ error e. e ≡ InvalidInput → error.kind ≡ cbor.NoMemory → ⊥ };
+    ghost from_gives = { λ error e. (e ≡ InvalidInput) ↔ (error.kind ≢ cbor.NoMemory) };
 
     fn from(error: DecodeError) -> ErrorBodyFault {
         if matches!(error.kind, DecodeKind::NoMemory) {

@@ -1,11 +1,13 @@
 //! Error bodies in JSON.
 ghost use Rattle.std.specs.Prelude.{◌≡◌, Some, None, IfOk, IfErr};
+ghost use Rattle.smithy_json_tokens.specs.TokenRules.{next_answer, FindsContainer};
+ghost use Rattle.smithy_json_tokens.specs.TokenRuns.{start};
 ghost use Rattle.smithy_json_tokens.specs.TokenView.{token_view};
 ghost use Rattle.smithy_json_tokens.specs.IteratorView.{cursor_of};
 ghost use Rattle.smithy_error_bodies.specs.Said.{said_by};
 ghost use Rattle.smithy_error_bodies.specs.JsonErrors.{JsonSays};
 ghost use Rattle.smithy_error_bodies.specs.Private.JsonSteps.{fresh, reads, Tells, begins_object};
-ghost use Rattle.smithy_error_bodies.specs.declared.error_body.ErrorBodyFault.TheVariants.{InvalidInput};
+ghost use Rattle.smithy_error_bodies.specs.declared.error_body.ErrorBodyFault.TheVariants.{InvalidInput, NoMemory};
 
 use crate::error_body::{ErrorBody, ErrorBodyFault};
 use crate::reading::{Reading, Turn};
@@ -46,6 +48,8 @@ fn read_object<'a>(
 pub fn read_json_error(alloc: Global, body: &[u8]) -> Result<ErrorBody, ErrorBodyFault>
     ensures ok { IfOk result (λ said. JsonSays body.now (Some (said_by said))) }
     ensures err { IfErr result (λ e. e ≡ InvalidInput → JsonSays body.now None) }
+    // Memory is wanted only where a container comes first.
+    ensures memory { IfErr result (λ e. e ≡ NoMemory → FindsContainer (next_answer (start body.now))) }
 {
     let mut tokens = json_token_iter(alloc, body)?;
     let Some(item) = tokens.next() else {

@@ -13,3 +13,4 @@ pub mod DocumentLaws
 pub mod FrameLemmas
 pub mod BlockLemmas
 pub mod CountedValues
+pub mod FirstFaults

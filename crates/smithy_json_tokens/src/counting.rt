@@ -1,6 +1,8 @@
 //! How many elements or members a container has, counted by its tokens.
 
-ghost use Rattle.std.specs.Prelude.{◌≡◌, None, IfOk};
+ghost use Rattle.std.specs.Prelude.{◌≡◌, None, IfOk, OnErr};
+ghost use Rattle.smithy_json_tokens.specs.TokenRules.{next_answer, FindsContainer};
+ghost use Rattle.smithy_json_tokens.specs.TokenRuns.{start};
 ghost use Rattle.smithy_json_tokens.specs.TokenView.{token_view};
 ghost use Rattle.smithy_json_tokens.specs.IteratorView.{cursor_of};
 ghost use Rattle.smithy_json_tokens.specs.ContainerSize.{part_of, values_inside, Tells, HasSize};
@@ -9,7 +11,6 @@ ghost use Rattle.smithy_json_tokens.specs.declared.error.DeserializeErrorKind.Th
 use crate::error::{DeserializeError, DeserializeErrorKind};
 use crate::token::Token;
 use crate::token_iter::JsonTokenIterator;
-use crate::tokens_of::json_token_iter;
 use std::alloc::{AllocError, Global};
 
 // What a token is for the container whose values are counted.
@@ -53,7 +54,8 @@ fn part_of<'a>(token: Token<'a>) -> Part
 
 // No number of values, where an error comes in place of a token.
 fn uncounted(error: DeserializeError) -> Result<Option<usize>, AllocError>
-    ensures { IfOk result (λ size. (size ≡ None) × (error.kind ≡ NoMemory → ⊥)) }
+    ensures none { IfOk result (λ size. (size ≡ None) × (error.kind ≡ NoMemory → ⊥)) }
+    ensures memory { OnErr result (error.kind ≡ NoMemory) }
 {
     if matches!(error.kind, DeserializeErrorKind::NoMemory) {
         return Err(AllocError);
@@ -99,11 +101,12 @@ fn values_inside<'a>(tokens: &mut JsonTokenIterator<'a>) -> Result<Option<usize>
 }
 
 /// The number of elements or members of the container that begins the input, behind blanks. There is none where no container
-/// begins there, or the token that ends it isn't reached. It may be followed by anything.
+/// begins there, or the token that ends it isn't reached. It may be followed by anything. Memory is wanted for a container alone.
 pub fn container_size(alloc: Global, input: &[u8]) -> Result<Option<usize>, AllocError>
-    ensures { IfOk result (HasSize input.now) }
+    ensures size { IfOk result (HasSize input.now) }
+    ensures memory { OnErr result (FindsContainer (next_answer (start input.now))) }
 {
-    let mut tokens = json_token_iter(alloc, input)?;
+    let mut tokens = JsonTokenIterator::new(alloc, input);
     match tokens.next() {
         Some(Ok(token)) => match part_of(token) {
             Part::Begins => values_inside(&mut tokens),

@@ -1,6 +1,6 @@
 //! The tokens of an input.
 
-ghost use Rattle.std.specs.Prelude.{◌≡◌, IfOk};
+ghost use Rattle.std.specs.Prelude.{◌≡◌, IfOk, IsOk};
 ghost use Rattle.smithy_json_grammar.specs.Grammar.{IsJsonText};
 ghost use Rattle.smithy_json_grammar.specs.Tree.{Json};
 ghost use Rattle.smithy_json_tokens.specs.Tokens.{tokens};
@@ -12,11 +12,12 @@ ghost use Rattle.smithy_json_tokens.specs.IteratorView.{input_of, cursor_of, Giv
 use crate::token_iter::JsonTokenIterator;
 use std::alloc::{AllocError, Global};
 
-/// The tokens of an input, from its first byte on.
+/// The tokens of an input, from its first byte on. It takes no memory, and is always `Ok`.
 pub fn json_token_iter<'a>(
     alloc: Global,
     input: &'a [u8],
 ) -> Result<JsonTokenIterator<'a>, AllocError>
+    ensures ok { IsOk result }
     ensures input { IfOk result (λ it. input_of it ≡ input.now) }
     ensures cursor { IfOk result (λ it. cursor_of it ≡ start input.now) }
     // A text of a tree gives the tree's tokens and then None.

@@ -1,6 +1,7 @@
 -- What refuses a part of a model refuses its text.
 use Rattle.std.proofs.Common.{◌≡◌, inl, inr, ℕ, List, Some, codes}
 use Rattle.json.specs.Json.{Json, document}
+use Rattle.json.specs.Strict.{HasUniqueKeys}
 use Rattle.smithy_model.specs.declared.fault.ModelFault.{ModelFault}
 use Rattle.smithy_model.specs.declared.fault.ModelFault.TheVariants as faults
 use Rattle.smithy_model.specs.Objects.{Entry, entries_in}
@@ -42,23 +43,23 @@ refused_operations root form es is has (faults.UnknownTarget id) one = absurd on
 refused_operations root form es is has (faults.BadMixin id) one = absurd one
 refused_operations root form es is has (faults.Applied id) one = absurd one
 
-pub refused_root : (text : List ℕ) (root : Json) → document text ≡ Some root → (fault : ModelFault) → RefusesRoot root fault → RefusesText text fault
-refused_root text root is faults.NotAModel one = (root, is, one)
-refused_root text root is (faults.BadShape id) one = (root, is, one)
-refused_root text root is (faults.UnknownTarget id) one = (root, is, one)
-refused_root text root is (faults.BadMixin id) one = (root, is, one)
-refused_root text root is (faults.Applied id) one = (root, is, one)
-refused_root text root is faults.NoMemory one = tt
-refused_root text root is faults.NotJson one = absurd one
-refused_root text root is faults.NameTwice one = absurd one
+pub refused_root : (text : List ℕ) (root : Json) → document text ≡ Some root → HasUniqueKeys root → (fault : ModelFault) → RefusesRoot root fault → RefusesText text fault
+refused_root text root is unique faults.NotAModel one = (root, is, unique, one)
+refused_root text root is unique (faults.BadShape id) one = (root, is, unique, one)
+refused_root text root is unique (faults.UnknownTarget id) one = (root, is, unique, one)
+refused_root text root is unique (faults.BadMixin id) one = (root, is, unique, one)
+refused_root text root is unique (faults.Applied id) one = (root, is, unique, one)
+refused_root text root is unique faults.NoMemory one = tt
+refused_root text root is unique faults.NotJson one = absurd one
+refused_root text root is unique faults.NameTwice one = absurd one
 
-pub refused_links : (text : List ℕ) (root : Json) (m : Model) → document text ≡ Some root → IsUnlinked root m → (fault : ModelFault) → RefusesLinks m fault
+pub refused_links : (text : List ℕ) (root : Json) (m : Model) → document text ≡ Some root → HasUniqueKeys root → IsUnlinked root m → (fault : ModelFault) → RefusesLinks m fault
     → RefusesText text fault
-refused_links text root m is unlinked (faults.UnknownTarget id) one = (root, is, (m, unlinked, one))
-refused_links text root m is unlinked faults.NoMemory one = tt
-refused_links text root m is unlinked faults.NotJson one = absurd one
-refused_links text root m is unlinked faults.NameTwice one = absurd one
-refused_links text root m is unlinked faults.NotAModel one = absurd one
-refused_links text root m is unlinked (faults.BadShape id) one = absurd one
-refused_links text root m is unlinked (faults.BadMixin id) one = absurd one
-refused_links text root m is unlinked (faults.Applied id) one = absurd one
+refused_links text root m is unique unlinked (faults.UnknownTarget id) one = (root, is, unique, (m, unlinked, one))
+refused_links text root m is unique unlinked faults.NoMemory one = tt
+refused_links text root m is unique unlinked faults.NotJson one = absurd one
+refused_links text root m is unique unlinked faults.NameTwice one = absurd one
+refused_links text root m is unique unlinked faults.NotAModel one = absurd one
+refused_links text root m is unique unlinked (faults.BadShape id) one = absurd one
+refused_links text root m is unique unlinked (faults.BadMixin id) one = absurd one
+refused_links text root m is unique unlinked (faults.Applied id) one = absurd one

@@ -111,9 +111,10 @@ RefusesRoot root (faults.UnknownTarget id) = (m : Model) × IsUnlinked root m ×
 RefusesRoot root faults.NoMemory = Unit {0}
 RefusesRoot root _ = ⊥
 
--- Why a text is no model: it is no JSON, or nests deeper than 128; an object of it has a name twice; or it is JSON and no model.
+-- Why a text is no model: it is no JSON, or nests deeper than 128; an object of it has a name twice; or it is JSON without a name twice,
+-- and no model.
 abbrev pub RefusesText : List ℕ → ModelFault → Type 0
 RefusesText text faults.NotJson = ¬ IsUtf8 text ⊎ (document text ≡ None)
 RefusesText text faults.NameTwice = IsSomeAnd (document text) (λ root. ¬ HasUniqueKeys root)
 RefusesText text faults.NoMemory = Unit {0}
-RefusesText text fault = (root : Json) × (document text ≡ Some root) × RefusesRoot root fault
+RefusesText text fault = (root : Json) × (document text ≡ Some root) × HasUniqueKeys root × RefusesRoot root fault

@@ -1,8 +1,8 @@
 -- A header that comes in the place of the first of its name, or behind all.
-use Rattle.std.proofs.Common.{◌≡◌, ◌<◌, ◌≤◌, ◌+◌, ◌∷◌, ◌++◌, ℕ, List, [], length, take, drop, map, set, get_or, true, sym, ◌∙◌, ap, if◌then◌else◌}
-use Rattle.std.proofs.lemmas.List.{at_drop_more, take-append-drop, take-set, drop-set, map-append, take_all, drop_all}
+use Rattle.std.proofs.Common.{◌≡◌, ◌<◌, ◌≤◌, ◌+◌, ◌∷◌, ◌++◌, ℕ, suc, List, [], length, take, drop, map, set, get_or, Bool, true, false, Some, None, refl, sym, ◌∙◌, ap, arith, if◌then◌else◌}
+use Rattle.std.proofs.lemmas.List.{at_drop_more, take-append-drop, take-set, drop-set, map-append, take_all, drop_all, length-append}
 use Rattle.smithy_protocol.specs.declared.headers.Header.{Header as Kept}
-use Rattle.smithy_protocol.specs.Headers.{header_of, is_under, inserted}
+use Rattle.smithy_protocol.specs.Headers.{Header, header_of, is_under, inserted, value_under}
 
 -- what is inserted lies behind these headers
 abbrev pub Behind : Kept → List Kept → ℕ → Type 0
@@ -25,3 +25,22 @@ appended new xs i past behind =
     ∙ ap (λ ys. map header_of ys ++ header_of new ∷ []) (sym (take_all i xs past))
     ∙ ap (λ ys. map header_of (take i xs) ++ inserted (header_of new) (map header_of ys)) (sym (drop_all i xs past))
     ∙ sym behind
+
+-- a header that makes the headers one more has a name that none of them has
+new_name : (new : Header) (hs : List Header) → length (inserted new hs) ≡ suc (length hs) → value_under new.0 hs ≡ None
+new_name new [] more = refl
+new_name new (old ∷ hs) more = step (is_under new.0 old) more (new_name new hs)
+  where
+    step : (b : Bool) → length (if b then new ∷ hs else old ∷ inserted new hs) ≡ suc (suc (length hs)) → (length (inserted new hs) ≡ suc (length hs) → value_under new.0 hs ≡ None)
+        → (if b then Some old.1 else value_under new.0 hs) ≡ None
+    step true long rest = absurd (omega (arith, long))
+    step false long rest = rest (omega (arith, long))
+
+pub not_there : (new : Kept) (xs : List Kept) (i : ℕ) → length xs ≤ i → Behind new xs i → value_under (header_of new).0 (map header_of xs) ≡ None
+not_there new xs i past behind =
+    let whole : inserted (header_of new) (map header_of xs) ≡ map header_of xs ++ header_of new ∷ [] =
+    behind
+    ∙ ap (λ ys. map header_of ys ++ inserted (header_of new) (map header_of (drop i xs))) (take_all i xs past)
+    ∙ ap (λ ys. map header_of xs ++ inserted (header_of new) (map header_of ys)) (drop_all i xs past) in
+    let long = ap length whole ∙ length-append (map header_of xs) (header_of new ∷ []) in
+    new_name (header_of new) (map header_of xs) (omega (arith, long))

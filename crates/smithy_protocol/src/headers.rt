@@ -35,7 +35,7 @@ impl Model for Headers {
 }
 
 impl Headers {
-    ghost use Rattle.std.specs.Prelude.{◌≡◌, ◌<◌, [], ◌∷◌, ◌++◌, length, option_map, slice_get, string_bytes, Some, OnOk, OnErr};
+    ghost use Rattle.std.specs.Prelude.{◌≡◌, ◌<◌, [], ◌∷◌, ◌++◌, length, option_map, slice_get, string_bytes, Some, None, OnOk, OnErr};
     ghost use Rattle.smithy_protocol.specs.Headers.{inserted, value_under};
 
     /// No headers. It takes no memory.
@@ -47,11 +47,12 @@ impl Headers {
         }
     }
 
-    /// Puts a header in the place of the one whose name is equal, or behind all others. Where it is refused, the headers are as they
-    /// were.
+    /// Puts a header in the place of the one whose name is equal, which takes no memory, or behind all others. Where it is refused, the
+    /// headers are as they were.
     pub fn insert(&mut self, name: String, value: String) -> Result<(), AllocError>
         ensures put { OnOk result (self.new ≡ inserted (string_bytes name, string_bytes value) self.old) }
         ensures kept { OnErr result (self.new ≡ self.old) }
+        ensures memory { OnErr result (value_under (string_bytes name) self.old ≡ None) }
     {
         let header = Header { name, value };
         for at in 0..self.entries.len() {

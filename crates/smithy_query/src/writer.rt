@@ -1,13 +1,13 @@
 //! Writers of forms. Each call adds its bytes to the end of a text.
 
-ghost use Rattle.std.specs.Prelude.{◌≡◌, ◌<◌, ◌++◌, ◌∷◌, [], ℕ, List, Option, Some, None, suc, length, take, codes, string_bytes, option_map, unwrap_or, if◌then◌else◌, OnOk, OnErr, IfOk, IfErr, IsOk, Ok};
+ghost use Rattle.std.specs.Prelude.{◌≡◌, ◌<◌, ◌++◌, ◌∷◌, [], ℕ, List, Option, Some, None, suc, length, take, codes, string_bytes, option_map, unwrap_or, if◌then◌else◌, OnOk, OnErr, IfOk, IfErr, IsOk, Ok, is_some, true};
 ghost use Rattle.std.specs.Borrow.{sem};
 ghost use Rattle.std.specs.Cow.{cow_str_bytes};
 ghost use Rattle.std.specs.Fmt.{decimal, signed_decimal};
 ghost use Rattle.smithy_types.specs.Number.{whole_number};
 ghost use Rattle.smithy_types.specs.PrimitiveText.{boolean_text};
 ghost use Rattle.smithy_types.specs.WrittenDate.{date_text};
-ghost use Rattle.smithy_instants.specs.declared.written_date.DateTimeFormatError.TheVariants.{OutOfRange};
+ghost use Rattle.smithy_instants.specs.declared.written_date.DateTimeFormatError.TheVariants.{OutOfRange, NoMemory};
 ghost use Rattle.percent_encoding.specs.Percent.{percent_decode};
 ghost use Rattle.smithy_query.specs.Percent.{encoded};
 ghost use Rattle.smithy_query.specs.Split.{pairs_of};
@@ -174,6 +174,8 @@ impl<'a> QueryValueWriter<'a, String> {
             ≡ Some (string_bytes self.exit.0.now)) }
         ensures err { OnErr result (string_bytes self.exit.0.now ≡ value_text self.entry) }
         ensures cause { IfErr result (λ e. e ≡ OutOfRange → date_text format date_time.now ≡ None) }
+        // An instant that leaves the range takes no memory.
+        ensures memory { IfErr result (λ e. e ≡ NoMemory → is_some (date_text format date_time.now) ≡ true) }
     {
         let QueryValueWriter { output, base, rest } = self;
         let text = date_time.fmt(*output.allocator(), format)?;

@@ -4,7 +4,7 @@ use Rattle.smithy_declarations.specs.Value.{whole}
 use Rattle.smithy_declarations.specs.declared.shape_type.Scalar.TheVariants as scalars
 use Rattle.smithy_cbor_values.specs.Standing.{Follows}
 use Rattle.smithy_cbor_values.specs.Private.ItemPlaces.{one_item}
-use Rattle.smithy_cbor_values.proofs.BigNumbers.{integer_read, integer_fits, integer_refused, integer_leaves, unread_is, unread_fits}
+use Rattle.smithy_cbor_values.proofs.BigNumbers.{integer_read, integer_fits, integer_text, integer_refused, integer_leaves, unread_is, unread_fits}
 use Rattle.smithy_cbor_values.proofs.numbers.big_integer_at.Goals as goal
 
 pub returns-then-not-may_end-clause-found : goal.returns-then-not-may_end-clause-found
@@ -31,6 +31,9 @@ returns-else-not-may_end-clause-found c =
 pub returns-else-not-may_end-clause-fits : goal.returns-else-not-may_end-clause-fits
 returns-else-not-may_end-clause-fits c = integer_fits c.in-Ok.number _ _ _ c.in-Ok.ensures.read.stands
 
+pub returns-else-not-may_end-clause-text : goal.returns-else-not-may_end-clause-text
+returns-else-not-may_end-clause-text c = integer_text c.in-Ok.number _ _ _ c.in-Ok.ensures.read.stands
+
 pub returns-in-Err-clause-found : goal.returns-in-Err-clause-found
 returns-in-Err-clause-found c =
     let start = c.decoder_at-decoder.ensures in
@@ -41,4 +44,8 @@ returns-in-Err-clause-found c =
 
 pub returns-in-Err-clause-fits : goal.returns-in-Err-clause-fits
 returns-in-Err-clause-fits c =
+    unread_fits scalars.BigInteger (λ n. whole (number n)) c.args.input.now c.args.at c.args.depth c.in-Err.error.kind _ c.unread_number.result c.unread_number.ensures
+
+pub returns-in-Err-clause-text : goal.returns-in-Err-clause-text
+returns-in-Err-clause-text c =
     unread_fits scalars.BigInteger (λ n. whole (number n)) c.args.input.now c.args.at c.args.depth c.in-Err.error.kind _ c.unread_number.result c.unread_number.ensures

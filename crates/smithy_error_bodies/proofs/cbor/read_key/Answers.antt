@@ -8,7 +8,7 @@ use Rattle.smithy_error_bodies.proofs.cbor.read_key.Goals as goal
 pub returns-in_err-text-clause-err : goal.returns-in_err-text-clause-err
 returns-in_err-text-clause-err c =
     let p = err_from_is_err_and c.from_residual.result c.from_residual.ensures.1 in
-    rw p.1 (λ invalid. no_key (input_of c.args.decoder.now) (position_of c.args.decoder.now) c.in_err-text.field-0.0.kind c.in_err-text.ensures.refused.cause (p.2 invalid))
+    rw p.1 (λ invalid. no_key (input_of c.args.decoder.now) (position_of c.args.decoder.now) c.in_err-text.field-0.0.kind c.in_err-text.ensures.refused.cause (p.2.0 invalid))
 
 pub returns-clause-ok : goal.returns-clause-ok
 returns-clause-ok c =

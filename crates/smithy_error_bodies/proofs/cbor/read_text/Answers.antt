@@ -23,4 +23,4 @@ returns-then-is_other-clause-ok c =
 
 pub returns-else-is_other-clause-err : goal.returns-else-is_other-clause-err
 returns-else-is_other-clause-err c = λ invalid.
-    no_value (input_of c.args.decoder.now) (position_of c.args.decoder.now) c.in-Err.error.kind c.in-Err.ensures.refused.cause (c.from.ensures invalid) (c.is_other.ensures.no_other c.if-is_other.false)
+    no_value (input_of c.args.decoder.now) (position_of c.args.decoder.now) c.in-Err.error.kind c.in-Err.ensures.refused.cause (c.from.ensures.0 invalid) (c.is_other.ensures.no_other c.if-is_other.false)

@@ -10,7 +10,7 @@ pub returns-in_err-token-clause-err : goal.returns-in_err-token-clause-err
 returns-in_err-token-clause-err c =
     let p = err_from_is_err_and c.from_residual.result c.from_residual.ensures.1 in
     let step = subst (λ item. GivesNext c.loop-item.tokens (Some item) c.next.new.self) c.in_err-token.was c.in-Some.ensures.steps in
-    rw p.1 (λ invalid. c.loop-item.invariant.told None (error_left (state_of c.loop-item.reading) c.loop-item.tokens c.next.new.self c.in_err-token.field-0.0 step (p.2 invalid)))
+    rw p.1 (λ invalid. c.loop-item.invariant.told None (error_left (state_of c.loop-item.reading) c.loop-item.tokens c.next.new.self c.in_err-token.field-0.0 step (p.2.0 invalid)))
 
 pub loop-item-preserved : goal.loop-item-preserved
 loop-item-preserved c =

@@ -8,7 +8,7 @@ use Rattle.smithy_json_tokens.proofs.counting.values_inside.Goals as goal
 pub returns-in-Err : goal.returns-in-Err
 returns-in-Err c =
     let step = subst (λ item. GivesNext c.loop-item.tokens (Some item) c.next.new.self) c.in-Err.is c.in-Some.ensures.steps in
-    told_none (Tells (values_inside 0) (cursor_of c.args.tokens.now)) c.uncounted.result c.uncounted.ensures
+    told_none (Tells (values_inside 0) (cursor_of c.args.tokens.now)) c.uncounted.result c.uncounted.ensures.none
     (λ fault. c.loop-item.invariant.told None (error_left (values_inside c.loop-item.within) c.loop-item.tokens c.next.new.self c.in-Err.error refl step fault))
 
 pub loop-item-preserved-then-within-eq0 : goal.loop-item-preserved-then-within-eq0

@@ -18,5 +18,5 @@ returns-in_err-link_model-clause-refused c =
     let p = err_from_is_err_and c.from_residual-in_err-link_model.result c.from_residual-in_err-link_model.ensures.1 in
     let unlinked = c.in_ok-model.ensures.read in
     rw (p.1, p.2)
-    (refused_links c.args.text.now unlinked.0 (model_view c.in_ok-model.model) unlinked.1 unlinked.3 c.in_err-link_model.field-0.0
+    (refused_links c.args.text.now unlinked.0 (model_view c.in_ok-model.model) unlinked.1 unlinked.2 unlinked.3 c.in_err-link_model.field-0.0
     c.in_err-link_model.ensures.refused)

@@ -11,4 +11,4 @@ returns-clause-read c =
 pub returns-clause-refused : goal.returns-clause-refused
 returns-clause-refused c =
     IfErr-weaker c.read_unlinked.result _ _
-    (λ fault one. refused_root c.args.text.now (value_view c.in_ok-root.root) c.in_ok-root.ensures.read.0 fault one) c.read_unlinked.ensures.refused
+    (λ fault one. refused_root c.args.text.now (value_view c.in_ok-root.root) c.in_ok-root.ensures.read.0 c.in_ok-root.ensures.read.1 fault one) c.read_unlinked.ensures.refused

@@ -5,7 +5,7 @@ use Rattle.smithy_schema.specs.declared.error.SerdeError.TheVariants.{TooWide}
 use Rattle.smithy_declarations.specs.declared.shape_type.Scalar.TheVariants as scalars
 use Rattle.smithy_shapes.specs.Site.{site_of}
 use Rattle.smithy_declarations.specs.Value.{decimal}
-use Rattle.smithy_texts.specs.Decimal.{mantissa, net_exponent}
+use Rattle.smithy_texts.specs.Decimal.{mantissa, net_exponent, decimal_text}
 use Rattle.smithy_cbor_codec.specs.Cursor.{cursor_of, reading_settings_of}
 use Rattle.smithy_cbor_values.proofs.ScalarReads.{reads_big, answers_big, value_is}
 use Rattle.smithy_wire.proofs.ScalarReads.{was_ready}
@@ -33,3 +33,6 @@ returns-clause-wide c =
 
 pub returns-clause-fits : goal.returns-clause-fits
 returns-clause-fits c = value_is _ _ c.take_within.result (λ n. FitsSigned w128 (mantissa n)) TooWide c.big_decimal_at-found.result c.big_decimal_at-found.ensures.fits c.take_within.ensures.taken
+
+pub returns-clause-text : goal.returns-clause-text
+returns-clause-text c = value_is _ _ c.take_within.result (λ n. n ≡ decimal_text (mantissa n) (net_exponent n)) TooWide c.big_decimal_at-found.result c.big_decimal_at-found.ensures.text c.take_within.ensures.taken

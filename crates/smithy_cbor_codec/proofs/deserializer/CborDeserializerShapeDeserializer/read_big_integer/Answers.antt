@@ -1,5 +1,6 @@
 use Rattle.std.proofs.Common.{◌≡◌, ◌≤◌, length, refl, sym, ◌∙◌, rules}
 use Rattle.std.specs.Prelude.{FitsSigned}
+use Rattle.std.specs.Fmt.{signed_decimal}
 use Rattle.std.specs.Int.{w128}
 use Rattle.smithy_schema.specs.declared.error.SerdeError.TheVariants.{TooWide}
 use Rattle.smithy_declarations.specs.declared.shape_type.Scalar.TheVariants as scalars
@@ -33,3 +34,6 @@ returns-clause-wide c =
 
 pub returns-clause-fits : goal.returns-clause-fits
 returns-clause-fits c = value_is _ _ c.take_within.result (λ n. FitsSigned w128 (number n)) TooWide c.big_integer_at-found.result c.big_integer_at-found.ensures.fits c.take_within.ensures.taken
+
+pub returns-clause-text : goal.returns-clause-text
+returns-clause-text c = value_is _ _ c.take_within.result (λ n. n ≡ signed_decimal (number n)) TooWide c.big_integer_at-found.result c.big_integer_at-found.ensures.text c.take_within.ensures.taken

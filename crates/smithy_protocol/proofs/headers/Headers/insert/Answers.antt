@@ -1,8 +1,8 @@
-use Rattle.std.proofs.Common.{◌≡◌, length, map, sym, ap, ◌∙◌, arith, true, get_or}
+use Rattle.std.proofs.Common.{◌≡◌, length, map, string_bytes, sym, ap, ◌∙◌, arith, true, get_or}
 use Rattle.std.proofs.lemmas.Result.{err_from_is_err_and}
 use Rattle.smithy_protocol.specs.declared.headers.Header.{Header as Kept}
-use Rattle.smithy_protocol.specs.Headers.{header_of, is_under, inserted}
-use Rattle.smithy_protocol.proofs.HeaderLemmas.{replaced, appended}
+use Rattle.smithy_protocol.specs.Headers.{header_of, is_under, inserted, value_under}
+use Rattle.smithy_protocol.proofs.HeaderLemmas.{replaced, appended, not_there}
 use Rattle.smithy_protocol.proofs.headers.Headers.insert.Goals as goal
 
 pub returns-then-is_named-clause-put : goal.returns-then-is_named-clause-put
@@ -20,6 +20,15 @@ returns-in_err-push-clause-kept c =
     let held = ap (λ h. map header_of h.entries.items) c.loop-at.invariant.same ∙ c.self.view_is in
     let p = err_from_is_err_and c.from_residual.result c.from_residual.ensures.1 in
     rw (p.1, p.2) (ap (map header_of) c.in_err-push.ensures.items ∙ held)
+
+pub returns-in_err-push-clause-memory : goal.returns-in_err-push-clause-memory
+returns-in_err-push-clause-memory c =
+    let new : Kept = record { name = c.args.name; value = c.args.value } in
+    let items = c.loop-at.self-inside.entries.items in
+    let long = ap (λ h. length h.entries.items) c.loop-at.invariant.same in
+    let held = ap (λ h. map header_of h.entries.items) c.loop-at.invariant.same ∙ c.self.view_is in
+    let p = err_from_is_err_and c.from_residual.result c.from_residual.ensures.1 in
+    rw (p.1, p.2) (ap (value_under (string_bytes c.args.name)) (sym held) ∙ not_there new items c.loop-at.at (omega (arith, long)) c.loop-at.invariant.behind)
 
 pub returns-clause-put : goal.returns-clause-put
 returns-clause-put c =
