@@ -3,6 +3,7 @@ pub mod HeadFaults
 pub mod SizeLemmas
 pub mod TextLemmas
 pub mod ScalarReads
+pub mod IntegerHeads
 pub mod BigNumberPlaces
 pub mod BigNumbers
 pub mod InstantPlaces

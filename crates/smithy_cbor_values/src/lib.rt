@@ -3,6 +3,7 @@
 
 pub mod container_size;
 pub mod instants;
+mod integers;
 pub mod numbers;
 pub mod places;
 pub mod values;

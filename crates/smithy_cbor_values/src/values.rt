@@ -10,6 +10,7 @@ ghost use Rattle.smithy_cbor_values.specs.Borrowed.{BorrowsText, BorrowsBytes};
 ghost use Rattle.smithy_cbor_values.specs.Private.ScalarAtPlace.{IsAt, IsWholeAt, HasTextAt, IsBlobAt};
 ghost use Rattle.smithy_cbor_values.specs.Private.Skipping.{SkipsTo};
 
+use crate::integers::integer_at;
 use crate::places::{decoder_at, may_end};
 use cbor_item::{ItemError, byte_chunks, skip_item, text_chunks};
 use smithy_types::Blob;
@@ -38,14 +39,8 @@ pub fn long_at(input: &[u8], at: usize, depth: usize) -> Option<(i64, usize)>
     ensures found { IfSome result (λ r. IsWholeAt 64 r.0 input.now at depth r.1) }
     ensures none { IfNone result ((n : ℤ) (e : ℕ) → IsWholeAt 64 n input.now at depth e → ⊥) }
 {
-    let mut decoder = decoder_at(input, at);
-    match decoder.long() {
-        Ok(value) => {
-            let end = decoder.position();
-            may_end(input, end, depth).then_some((value, end))
-        }
-        Err(_) => None,
-    }
+    let (value, end) = integer_at(input, at)?;
+    may_end(input, end, depth).then_some((value, end))
 }
 
 /// The text at the offset, with its end. It is borrowed where it stands in one piece.

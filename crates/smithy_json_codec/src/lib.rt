@@ -5,6 +5,7 @@ mod big_numbers;
 mod borrowing;
 mod codec;
 mod deserializer;
+mod digits;
 mod frames;
 mod input;
 mod keys;

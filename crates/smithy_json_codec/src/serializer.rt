@@ -18,6 +18,7 @@ ghost use Rattle.smithy_json_codec.specs.Serializing.{state_of, has_failed};
 ghost use Rattle.smithy_json_codec.specs.Writing.{JsonState, fresh_state, is_key_due, lead, wrote, wrote_any, key_wrote, opened, where_taken, json_after};
 
 use crate::big_numbers::push_normalized;
+use crate::digits::push_long;
 use crate::output::{
     form_at, push_base64, push_comma, push_key, push_name, push_quoted, push_whole_document,
 };
@@ -266,8 +267,11 @@ impl ShapeSerializer for JsonSerializer {
     }
 
     fn write_long(&mut self, schema: &Schema<'_>, value: i64) -> Result<(), SerdeError> {
-        let mut buffer = Buffer::new();
-        self.write_text(schema, buffer.format(value).as_bytes())
+        self.begin_value(schema)?;
+        push_long(&mut self.out, value)?;
+        self.needs_comma = true;
+        self.containers.succeed();
+        Ok(())
     }
 
     fn write_string(&mut self, schema: &Schema<'_>, value: &str) -> Result<(), SerdeError> {

@@ -1,21 +1,16 @@
 use Rattle.std.proofs.Common.{◌≡◌, true, false, sym, subst, ◌∙◌}
 use Rattle.smithy_cbor_values.specs.Standing.{Follows}
-use Rattle.smithy_cbor_values.proofs.ScalarReads.{no_whole_at, same_whole_end, unless}
-use Rattle.smithy_cbor_values.proofs.values.long_at.Goals.{in-Ok, in-Err}
+use Rattle.smithy_cbor_values.proofs.ScalarReads.{long_fits, same_whole_end, unless}
 use Rattle.smithy_cbor_values.proofs.values.long_at.Goals as goal
+
+pub returns-in_err-value-clause-none : goal.returns-in_err-value-clause-none
+returns-in_err-value-clause-none c = rw c.from_residual.ensures (λ n e h. c.in_err-value.ensures.none n e (h.found, h.stands, h.is) (long_fits n h.fits))
 
 pub returns-clause-none : goal.returns-clause-none
 returns-clause-none c =
-    let start = c.decoder_at-decoder.ensures in
-    elim c.match-long.branch [
-      | in-Ok w ↦
-          let stands = rw (start.input, start.position, ← w.position-end.ensures) at w.in-Ok.ensures.read.stands in
-          rw (w.result-is, w.then_some.ensures) (unless w.may_end.result _ _ (λ ends n e h.
-          let same = same_whole_end c.args.input.now c.args.at n stands.0 c.args.depth e w.position-end.result h stands.1 in
-          let may : w.may_end.result ≡ true = w.may_end.ensures.1 (subst (Follows c.args.depth c.args.input.now) same h.follows) in
-          let both : true ≡ false = sym may ∙ ends in
-          cc))
-      | in-Err w ↦
-          let cause = w.in-Err.ensures.refused.cause in
-          rw w.result-is (λ n e. no_whole_at c.args.input.now c.args.at w.in-Err.field-0.kind (rw (start.input, start.position) at cause) n c.args.depth e)
-    ]
+    let found = c.in_ok-value.ensures.found in
+    rw c.then_some.ensures (unless c.may_end.result _ _ (λ ends n e h.
+    let same = same_whole_end c.args.input.now c.args.at n found.0 c.args.depth e c.in_ok-value.end h found.1 in
+    let may : c.may_end.result ≡ true = c.may_end.ensures.1 (subst (Follows c.args.depth c.args.input.now) same h.follows) in
+    let both : true ≡ false = sym may ∙ ends in
+    cc))
