@@ -9,8 +9,7 @@ break = 0xff
 
 -- a head with this major type and argument, and then the body
 abbrev pub HeadThen : ℕ → ℕ → List ℕ → List ℕ → Type 0
-HeadThen major argument body bytes =
-    (head : List ℕ) × IsHead major argument head × (bytes ≡ head ++ body)
+HeadThen major argument body bytes = (head : List ℕ) × IsHead major argument head × (bytes ≡ head ++ body)
 
 -- a head of indefinite length, the body, and a break
 abbrev pub UntilBreak : ℕ → List ℕ → List ℕ → Type 0
@@ -26,8 +25,7 @@ AreChunks major (chunk ∷ chunks) bytes =
 -- a string of the major type: one chunk after its head, or chunks until a break (section 3.2.3)
 abbrev pub IsString : ℕ → Extent → List (List ℕ) → List ℕ → Type 0
 IsString major definite chunks bytes = (length chunks ≡ 1) × AreChunks major chunks bytes
-IsString major indefinite chunks bytes =
-    (body : List ℕ) × AreChunks major chunks body × UntilBreak major body bytes
+IsString major indefinite chunks bytes = (body : List ℕ) × AreChunks major chunks body × UntilBreak major body bytes
 
 -- 0 to 23 in the initial byte, 32 to 255 in the byte after it
 abbrev pub IsSimple : ℕ → List ℕ → Type 0
@@ -52,12 +50,10 @@ abbrev mutual
   IsEncodingOf (text_string extent chunks) bytes = IsString 3 extent chunks bytes
   IsEncodingOf (array definite is) bytes =
       (body : List ℕ) × AreEncodingsOf is body × HeadThen 4 (item_count is) body bytes
-  IsEncodingOf (array indefinite is) bytes =
-      (body : List ℕ) × AreEncodingsOf is body × UntilBreak 4 body bytes
+  IsEncodingOf (array indefinite is) bytes = (body : List ℕ) × AreEncodingsOf is body × UntilBreak 4 body bytes
   IsEncodingOf (map definite ps) bytes =
       (body : List ℕ) × ArePairEncodingsOf ps body × HeadThen 5 (pair_count ps) body bytes
-  IsEncodingOf (map indefinite ps) bytes =
-      (body : List ℕ) × ArePairEncodingsOf ps body × UntilBreak 5 body bytes
+  IsEncodingOf (map indefinite ps) bytes = (body : List ℕ) × ArePairEncodingsOf ps body × UntilBreak 5 body bytes
   IsEncodingOf (tag n i) bytes = (body : List ℕ) × IsEncodingOf i body × HeadThen 6 n body bytes
   IsEncodingOf (simple n) bytes = IsSimple n bytes
   IsEncodingOf (float digits) bytes = IsFloat digits bytes
@@ -78,8 +74,7 @@ abbrev mutual
 
 -- the bytes of the input from at to end are a well-formed encoding of the item
 abbrev pub IsItemAt : Item → List ℕ → ℕ → ℕ → Type 0
-IsItemAt value input at end =
-    (end ≤ length input) × IsEncodingOf value (slice_range input at end)
+IsItemAt value input at end = (end ≤ length input) × IsEncodingOf value (slice_range input at end)
 
 -- an item stands at the place and ends at end; no other item stands there, nor this one with
 -- another end

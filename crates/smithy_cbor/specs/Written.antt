@@ -42,8 +42,7 @@ bignum_bytes number n = shortest_head 6 number ++ byte_string_bytes (big_endian_
 
 -- n under a major type where its head holds it, else its bytes under a tag
 abbrev pub magnitude_bytes : ℕ → ℕ → ℕ → List ℕ
-magnitude_bytes major number n =
-    if nat_lt n (2 ^ 64) then shortest_head major n else bignum_bytes number n
+magnitude_bytes major number n = if nat_lt n (2 ^ 64) then shortest_head major n else bignum_bytes number n
 
 -- a whole number of 128 bits
 abbrev pub big_integer_bytes : ℤ → List ℕ

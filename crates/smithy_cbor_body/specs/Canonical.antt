@@ -1,5 +1,6 @@
 -- The encoding in which a value is written, one with the lengths of lists and maps, and one without.
-use Rattle.std.specs.Prelude.{ℕ, ◌==◌, List, [], ◌++◌, Bool, true, false, Option, Some, None}
+use Rattle.std.specs.Prelude.{ℕ, ◌==◌, List, [], ◌++◌, Bool, true, false, Option, None}
+use Rattle.std.specs.Option.{option_map_or}
 use Rattle.smithy_instants.specs.Instant.{seconds_of, subsecond_of}
 use Rattle.smithy_declarations.specs.declared.shape_type.TimestampFormat.{TimestampFormat}
 use Rattle.smithy_shapes.specs.ScalarTest.{ValueTest}
@@ -30,10 +31,7 @@ cbor_holds = record { scalar = is_held; documents = false }
 
 -- what stands before the value of a member: its name, where it has one
 abbrev pub key_bytes : View → List ℕ
-key_bytes view = elim view.name [
-  | None ↦ []
-  | Some name ↦ text_bytes name
-]
+key_bytes view = option_map_or text_bytes view.name []
 
 -- Members in the table's order, elements in theirs and the entries of a map in that of its keys' bytes. Lists and maps have their
 -- number of elements or entries in the head where lengths are definite. Structures and unions, of which a union is a map of its one

@@ -33,15 +33,13 @@ wide_always scalars.BigInteger time x h = h
 wide_always scalars.BigDecimal time x h = h
 
 pub wide_slice : (s : Scalar) (time : Option TimestampFormat) (x : Item) (i : List ℕ) (a e : ℕ) → IsItemAt x i a e → says s time x ≡ wide → IsWideCbor s i
-wide_slice s time x i a e there leaves = record {
-  before = take a i;
-  slice = slice_range i a e;
-  behind = drop e i;
-  found = x;
-  parts = sym (take-append-drop a i) ∙ ap (λ r. take a i ++ r) (item_front x i a e there);
-  encodes = there.1;
-  leaves = wide_always s time x leaves;
-}
+wide_slice s time x i a e there leaves = (
+  take a i,
+  slice_range i a e,
+  drop e i,
+  sym (take-append-drop a i) ∙ ap (λ r. take a i ++ r) (item_front x i a e there),
+  (x, there.1, wide_always s time x leaves),
+)
 
 -- ---- what isn't carried
 
@@ -107,11 +105,10 @@ uncarried_slice s time x i a e there h =
     (kind, date_there digits (subst (λ (y : Item). IsItemAt y i a e) is there))
   where
     date_there : (digits : List ℕ) → IsItemAt (tag 1 (float digits)) i a e → IsUncarriedCbor i
-    date_there digits there = record {
-      before = take a i;
-      slice = slice_range i a e;
-      behind = drop e i;
-      digits = digits;
-      parts = sym (take-append-drop a i) ∙ ap (λ r. take a i ++ r) (item_front (tag 1 (float digits)) i a e there);
-      encodes = there.1;
-    }
+    date_there digits there = (
+      take a i,
+      slice_range i a e,
+      drop e i,
+      sym (take-append-drop a i) ∙ ap (λ r. take a i ++ r) (item_front (tag 1 (float digits)) i a e there),
+      (digits, there.1),
+    )

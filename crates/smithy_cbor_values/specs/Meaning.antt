@@ -4,7 +4,7 @@ use Rattle.std.specs.Prelude.{ℕ, ◌==◌, Option, Some, None, Bool, true, fal
 use Rattle.smithy_declarations.specs.declared.place.Place.{Place}
 use Rattle.smithy_declarations.specs.Table.{Table}
 use Rattle.smithy_declarations.specs.Value.{Value}
-use Rattle.cbor_item.specs.Item.{Item, unsigned, negative, byte_string, text_string, array, map, tag, simple, float, Items, no_items, item, Pairs, no_pairs, pair}
+use Rattle.cbor_item.specs.Item.{Item, array, map, simple, Items, no_items, item, Pairs, no_pairs, pair}
 use Rattle.smithy_cbor_values.specs.Settings.{Settings}
 use Rattle.smithy_cbor.specs.Scalar.{null_value, text_of}
 use Rattle.smithy_cbor_values.specs.Scalar.{says}
@@ -15,15 +15,10 @@ use Rattle.smithy_wire.specs.Meaning.{meaning}
 abbrev mutual
   -- an item without its heads: what is no array, no map and no null is a scalar
   pub node_of : Item → Node Item
-  node_of (unsigned n) = leaf (unsigned n)
-  node_of (negative n) = leaf (negative n)
-  node_of (byte_string extent chunks) = leaf (byte_string extent chunks)
-  node_of (text_string extent chunks) = leaf (text_string extent chunks)
   node_of (array extent is) = container as_array (item_nodes is)
   node_of (map extent ps) = container as_object (pair_nodes ps)
-  node_of (tag n i) = leaf (tag n i)
   node_of (simple n) = if n == null_value then null_node else leaf (simple n)
-  node_of (float digits) = leaf (float digits)
+  node_of i = leaf i
 
   pub item_nodes : Items → Nodes Item
   item_nodes no_items = no_nodes

@@ -1,11 +1,11 @@
 -- What holds after the checks of a task.
 use Rattle.std.proofs.Common.{List, ℕ}
-use Rattle.smithy_commands.specs.Task.{Task}
+use Rattle.smithy_commands.specs.Transcode.{Transcode}
 use Rattle.smithy_commands.specs.Checks.{Sources}
 use Rattle.smithy_commands.specs.TranscodeAnswer.{AfterTranscoding}
 
 -- what holds of each body of which P holds, holds of the body
-pub after_weaker : (task : Task) (old new : Sources) (P Q : List ℕ → Type 0) → ((bytes : List ℕ) → P bytes → Q bytes)
+pub after_weaker : (task : Transcode) (old new : Sources) (P Q : List ℕ → Type 0) → ((bytes : List ℕ) → P bytes → Q bytes)
     → AfterTranscoding task old new P → AfterTranscoding task old new Q
 after_weaker task old new P Q f a =
     let table = a.2 in

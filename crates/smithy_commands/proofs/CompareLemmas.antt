@@ -2,18 +2,19 @@
 use Rattle.std.proofs.Common.{◌≡◌, ◌≢◌, ◌⊎◌, ◌≤◌, ◌∙◌, inl, inr, ℕ, List, length, Bool, Some, None, Ok, Err, true, false, refl, sym, ap, subst, arith}
 use Rattle.smithy_declarations.specs.Table.{Table, IsStructure, kind_of, shape_place, declared_as}
 use Rattle.smithy_declarations.specs.Acceptance.{accepted, table_of}
+use Rattle.smithy_transcode.specs.declared.wire.TranscodeError.{TranscodeError}
 use Rattle.smithy_transcode.specs.declared.wire.TranscodeError.TheVariants as errors
 use Rattle.smithy_compare.specs.Compares.{Answer}
 use Rattle.smithy_compare.specs.declared.comparing.Compared.{Compared}
 use Rattle.smithy_compare.specs.declared.comparing.Compared.TheVariants as compared
-use Rattle.smithy_compare.specs.declared.comparing.CompareError.TheVariants.{First, Second}
+use Rattle.smithy_compare.specs.declared.comparing.CompareError.TheVariants.{First, Second, NoMemory}
 use Rattle.smithy_compare.specs.declared.comparing.CompareError.{CompareError}
 use Rattle.smithy_commands.specs.declared.status.Status.{Status}
-use Rattle.smithy_commands.specs.declared.status.Status.TheVariants.{Done, Usage, ReadFailed, WriteFailed, OutOfMemory, InvalidInput, TooDeep, TooWide, NotCarried, TableRefused, NoSuchShape, NotAStructure, TooLong, Differs, SecondInvalidInput, SecondTooDeep, SecondTooWide, SecondNotCarried}
+use Rattle.smithy_commands.specs.declared.status.Status.TheVariants.{Done, Usage, ReadFailed, WriteFailed, OutOfMemory, TableRefused, NoSuchShape, NotAStructure, TooLong, Differs}
 use Rattle.smithy_commands.specs.Compare.{Compare}
-use Rattle.smithy_commands.specs.Status.{is_answer, status_of_compared, status_of_comparison}
+use Rattle.smithy_commands.specs.Status.{is_answer, status_of_error, status_of_second_error, status_of_compare_error, status_of_compared, status_of_comparison}
 use Rattle.smithy_commands.specs.Checks.{longest_table, longest_input, IsLoaded, IsTooLong, IsRoot, AfterTable, AfterRoot}
-use Rattle.smithy_commands.specs.CompareAnswer.{FilesTold, MetFault, AfterFirst, AfterBoth, Answers, answer_line, AfterComparing, RefusesBody, Refuses, Says, IsInOrder, CompareAnswer}
+use Rattle.smithy_commands.specs.CompareAnswer.{FilesTold, MetFault, AfterFirst, AfterBoth, Answers, answer_line, AfterComparing, RefusesBody, Refuses, Says, AllIsInOrder, CompareAnswer}
 use Rattle.smithy_commands.specs.Private.Comparisons.{IsFoundIn}
 use Rattle.smithy_outside.specs.Outside.{Shown, Outside, outside, MetNoFault, MetOneFault, Shows, Took, TookPrefix}
 use Rattle.smithy_outside.proofs.Faults.{has_failed, steady_meets_none}
@@ -24,10 +25,10 @@ differs_alone : (found : Compared) → found ≢ compared.Same → Differs ≡ s
 differs_alone compared.Same other = absurd (other refl)
 differs_alone (compared.Differs path) other = refl
 
-module _ (c : Compare) (old new : Outside) (text first second : List ℕ) (table : Table) (root : ℕ) (o : IsInOrder c old new text first second table root) where
+module _ (c : Compare) (old new : Outside) (text first second : List ℕ) (table : Table) (root : ℕ) (o : AllIsInOrder c old new text first second table root) where
   -- what was loaded is the table
   accepted_there : (found : List ℕ) → IsLoaded longest_table found (old.files c.table_path) → table_of found ≡ accepted table
-  accepted_there found loaded = subst (λ (t : List ℕ). table_of t ≡ accepted table) (sym (loaded.whole text o.file)) o.accepted_as
+  accepted_there found loaded = subst (λ (t : List ℕ). table_of t ≡ accepted table) (sym (loaded.whole text o.file.told)) o.accepted_as
 
   of_table : (P : Table → Type 0) → AfterTable (old.files c.table_path) P → P table
   of_table P after =
@@ -47,26 +48,31 @@ module _ (c : Compare) (old new : Outside) (text first second : List ℕ) (table
   of_first : (P : Table → ℕ → List ℕ → Type 0) → AfterFirst c old.files P → P table root first
   of_first P after =
       let there = of_root (λ (t : Table) (r : ℕ). (b : List ℕ) × IsLoaded longest_input b (old.files c.first.path) × P t r b) after in
-      subst (λ (b : List ℕ). P table root b) (there.1.whole first o.first_file) there.2
+      subst (λ (b : List ℕ). P table root b) (there.1.whole first o.first_file.told) there.2
 
   of_both : (P : Table → ℕ → List ℕ → List ℕ → Type 0) → AfterBoth c old.files P → P table root first second
   of_both P after =
       let there = of_first (λ (t : Table) (r : ℕ) (a : List ℕ). (b : List ℕ) × IsLoaded longest_input b (old.files c.second.path) × P t r a b) after in
-      subst (λ (b : List ℕ). P table root first b) (there.1.whole second o.second_file) there.2
+      subst (λ (b : List ℕ). P table root first b) (there.1.whole second o.second_file.told) there.2
 
   of_comparison : (P : Compared → List ℕ → Type 0) → AfterComparing c old.files P
       → (found : Compared) × Answers c table root first second (Ok found) × P found (answer_line table root found)
   of_comparison P after =
       of_both (λ (t : Table) (r : ℕ) (a b : List ℕ). (found : Compared) × Answers c t r a b (Ok found) × P found (answer_line t r found)) after
 
-  of_refusal : (error : CompareError) → RefusesBody c old.files error → Answers c table root first second (Err error)
-  of_refusal error after = of_both (λ (t : Table) (r : ℕ) (a b : List ℕ). Answers c t r a b (Err error)) after
+  of_refusal : (status : Status) → RefusesBody c old.files status
+      → (e : CompareError) × Answers c table root first second (Err e) × (status ≡ status_of_compare_error e)
+  of_refusal status after =
+      of_both (λ (t : Table) (r : ℕ) (a b : List ℕ). (e : CompareError) × Answers c t r a b (Err e) × (status ≡ status_of_compare_error e)) after
 
   too_long : (limit : ℕ) (file : Shown) (bytes : List ℕ) → IsTooLong limit file → Shows file bytes → length bytes ≤ limit → ⊥
   too_long limit file bytes long told within = let more = long.1 bytes told in absurd (omega (arith, more, within))
 
   abbrev Ends : Status → Type 0
   Ends status = (status ≡ OutOfMemory) ⊎ ((answer : Answer) × Answers c table root first second answer × (status ≡ status_of_comparison answer))
+
+  ends_by : (status : Status) → RefusesBody c old.files status → Ends status
+  ends_by status by = let there = of_refusal status by in inr (Err there.0, there.1, there.2)
 
   pub complete_of : (status : Status) → Says c old new status → Ends status
   complete_of Done says =
@@ -79,36 +85,29 @@ module _ (c : Compare) (old new : Outside) (text first second : List ℕ) (table
       let found = of_comparison (λ found line. MetOneFault old.out new.out × TookPrefix line old.out new.out) says in
       absurd (o.out_is_well (has_failed old.out new.out found.2.0))
   complete_of OutOfMemory says = inl refl
-  complete_of ReadFailed (inl met) = absurd (o.file_is_well met.0)
+  complete_of ReadFailed (inl met) = absurd (o.file.well met.0)
   complete_of ReadFailed (inr (inl after)) =
-      let met = of_root (λ t r. MetFault (old.files c.first.path) (new.files c.first.path)) after in absurd (o.first_is_well met.0)
+      let met = of_root (λ t r. MetFault (old.files c.first.path) (new.files c.first.path)) after in absurd (o.first_file.well met.0)
   complete_of ReadFailed (inr (inr after)) =
-      let met = of_first (λ t r b. MetFault (old.files c.second.path) (new.files c.second.path)) after in absurd (o.second_is_well met.0)
-  complete_of TooLong (inl long) = absurd (too_long longest_table (old.files c.table_path) text long o.file o.file_is_within)
+      let met = of_first (λ t r b. MetFault (old.files c.second.path) (new.files c.second.path)) after in absurd (o.second_file.well met.0)
+  complete_of TooLong (inl long) = absurd (too_long longest_table (old.files c.table_path) text long o.file.told o.file.within)
   complete_of TooLong (inr (inl after)) =
       let long = of_root (λ t r. IsTooLong longest_input (old.files c.first.path)) after in
-      absurd (too_long longest_input (old.files c.first.path) first long o.first_file o.first_is_within)
+      absurd (too_long longest_input (old.files c.first.path) first long o.first_file.told o.first_file.within)
   complete_of TooLong (inr (inr after)) =
       let long = of_first (λ t r b. IsTooLong longest_input (old.files c.second.path)) after in
-      absurd (too_long longest_input (old.files c.second.path) second long o.second_file o.second_is_within)
-  complete_of InvalidInput says = inr (Err (First errors.InvalidInput), of_refusal (First errors.InvalidInput) says, refl)
-  complete_of TooDeep says = inr (Err (First errors.TooDeep), of_refusal (First errors.TooDeep) says, refl)
-  complete_of TooWide says = inr (Err (First errors.TooWide), of_refusal (First errors.TooWide) says, refl)
-  complete_of NotCarried says = inr (Err (First errors.NotCarried), of_refusal (First errors.NotCarried) says, refl)
-  complete_of SecondInvalidInput says = inr (Err (Second errors.InvalidInput), of_refusal (Second errors.InvalidInput) says, refl)
-  complete_of SecondTooDeep says = inr (Err (Second errors.TooDeep), of_refusal (Second errors.TooDeep) says, refl)
-  complete_of SecondTooWide says = inr (Err (Second errors.TooWide), of_refusal (Second errors.TooWide) says, refl)
-  complete_of SecondNotCarried says = inr (Err (Second errors.NotCarried), of_refusal (Second errors.NotCarried) says, refl)
-  complete_of (TableRefused fault) says = let is = accepted_there says.0 says.1 in let told = says.2.2 in absurd (cc (is, told))
-  complete_of NoSuchShape says =
+      absurd (too_long longest_input (old.files c.second.path) second long o.second_file.told o.second_file.within)
+  complete_of (TableRefused fault) (inl says) = let is = accepted_there says.0 says.1 in let told = says.2.2 in absurd (cc (is, told))
+  complete_of NoSuchShape (inl says) =
       let none = of_table (λ (t : Table). declared_as t c.root_name ≡ None) says in let is = o.is_root.named in absurd (cc (none, is))
-  complete_of NotAStructure says =
+  complete_of NotAStructure (inl says) =
       let there = of_table (λ (t : Table). (r : ℕ) × (declared_as t c.root_name ≡ Some r) × ¬ IsStructure (kind_of t (shape_place r))) says in
       let named = there.1 in
       let is = o.is_root.named in
       let same : root ≡ there.0 = cc (named, is) in
       absurd (there.2 (subst (λ (r : ℕ). IsStructure (kind_of table (shape_place r))) same o.is_root.structure))
-  complete_of _ says = absurd says
+  complete_of _ (inl says) = absurd says
+  complete_of _ (inr by) = ends_by _ by
 
 -- ---- a run over what is steady
 
@@ -128,15 +127,56 @@ steady_of c old new table first second out status says = (
 
 -- ---- the answer
 
+-- whether a body that is refused may have the status
+abbrev is_of_error : Status → Bool
+is_of_error Done = false
+is_of_error Differs = false
+is_of_error WriteFailed = false
+is_of_error Usage = false
+is_of_error _ = true
+
+of_error : (e : TranscodeError) → is_of_error (status_of_error e) ≡ true
+of_error errors.InvalidInput = refl
+of_error errors.TooDeep = refl
+of_error errors.TooWide = refl
+of_error errors.NotCarried = refl
+of_error (errors.Inexpressible u) = refl
+of_error errors.NoMemory = refl
+
+of_second_error : (e : TranscodeError) → is_of_error (status_of_second_error e) ≡ true
+of_second_error errors.InvalidInput = refl
+of_second_error errors.TooDeep = refl
+of_second_error errors.TooWide = refl
+of_second_error errors.NotCarried = refl
+of_second_error (errors.Inexpressible u) = refl
+of_second_error errors.NoMemory = refl
+
+of_compare_error : (e : CompareError) → is_of_error (status_of_compare_error e) ≡ true
+of_compare_error (First e) = of_error e
+of_compare_error (Second e) = of_second_error e
+of_compare_error NoMemory = refl
+
+not_of_error : (c : Compare) (files : FilesTold) (status : Status) → RefusesBody c files status → is_of_error status ≡ false → ⊥
+not_of_error c files status by other =
+    let error = by.2.2.2.2.2 in
+    let all = of_compare_error error.0 in
+    let is = error.2 in
+    absurd (let e : true ≡ false = sym all ∙ ap is_of_error (sym is) ∙ other in cc)
+
 refusal_says : (c : Compare) (old new : Outside) (status : Status) → Refuses c old.files new.files status → Says c old new status
-refusal_says c old new Done why = absurd why
-refusal_says c old new Differs why = absurd why
-refusal_says c old new WriteFailed why = absurd why
+refusal_says c old new Done (inl why) = absurd why
+refusal_says c old new Done (inr by) = absurd (not_of_error c old.files Done by refl)
+refusal_says c old new Differs (inl why) = absurd why
+refusal_says c old new Differs (inr by) = absurd (not_of_error c old.files Differs by refl)
+refusal_says c old new WriteFailed (inl why) = absurd why
+refusal_says c old new WriteFailed (inr by) = absurd (not_of_error c old.files WriteFailed by refl)
 refusal_says c old new _ why = why
 
 refusal_is_no_answer : (c : Compare) (old new : Outside) (status : Status) → Refuses c old.files new.files status → is_answer status ≡ true → ⊥
-refusal_is_no_answer c old new Done why answer = why
-refusal_is_no_answer c old new Differs why answer = why
+refusal_is_no_answer c old new Done (inl why) answer = why
+refusal_is_no_answer c old new Done (inr by) answer = not_of_error c old.files Done by refl
+refusal_is_no_answer c old new Differs (inl why) answer = why
+refusal_is_no_answer c old new Differs (inr by) answer = not_of_error c old.files Differs by refl
 refusal_is_no_answer c old new _ why answer = cc
 
 -- what holds of what was found and of its line, if P does
@@ -229,5 +269,9 @@ module _ (c : Compare) (files files_behind : List ℕ → Shown) (input out out_
           };
         }
 
+says_no_usage : (c : Compare) (old new : Outside) → Says c old new Usage → ⊥
+says_no_usage c old new (inl why) = why
+says_no_usage c old new (inr by) = not_of_error c old.files Usage by refl
+
 pub compare_is_no_usage : (c : Compare) (old new : Outside) (status : Status) → CompareAnswer c old new status → status ≢ Usage
-compare_is_no_usage c old new status answer = λ e. absurd (subst (Says c old new) e answer.says)
+compare_is_no_usage c old new status answer = λ e. says_no_usage c old new (subst (Says c old new) e answer.says)

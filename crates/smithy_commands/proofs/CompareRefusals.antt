@@ -1,5 +1,5 @@
 -- Why two files were not compared: what each step of `compare` says of its refusal.
-use Rattle.std.proofs.Common.{◌≡◌, ◌≤◌, ◌∙◌, inl, inr, ℕ, List, Result, Ok, Err, IfOk, IfErr, sym, subst, arith}
+use Rattle.std.proofs.Common.{◌≡◌, ◌≤◌, ◌∙◌, inl, inr, ℕ, List, Result, Ok, Err, IfOk, IfErr, refl, sym, subst, arith}
 use Rattle.smithy_declarations.specs.Table.{Table}
 use Rattle.smithy_declarations.specs.Acceptance.{accepted, table_of}
 use Rattle.smithy_transcode.specs.declared.wire.TranscodeError.TheVariants as errors
@@ -10,7 +10,7 @@ use Rattle.smithy_commands.specs.declared.status.Status.TheVariants.{ReadFailed,
 use Rattle.smithy_commands.specs.Compare.{Compare}
 use Rattle.smithy_commands.specs.Status.{status_of_compare_error}
 use Rattle.smithy_commands.specs.Checks.{longest_table, longest_input, IsLoaded, IsTooLong, IsRoot}
-use Rattle.smithy_commands.specs.CompareAnswer.{FilesTold, MetFault, Answers, Refuses}
+use Rattle.smithy_commands.specs.CompareAnswer.{FilesTold, MetFault, Answers, RefusesBody, Refuses}
 use Rattle.smithy_commands.specs.Private.Stages.{FailsToRead, FailsToLoad, FailsToFind}
 use Rattle.smithy_commands.specs.Private.Comparisons.{IsFound, IsFoundIn, FailsToCompare}
 use Rattle.smithy_outside.specs.Outside.{Shown, HasFailed, MetOneFault}
@@ -49,13 +49,13 @@ pub table_fails : (c : Compare) (old new : FilesTold) (status : Status) → Fail
 table_fails c old new ReadFailed one = inl (has_failed (old c.table_path) (new c.table_path) one, one.1)
 table_fails c old new OutOfMemory why = tt
 table_fails c old new TooLong why = inl why
-table_fails c old new (TableRefused fault) why = why
+table_fails c old new (TableRefused fault) why = inl why
 table_fails c old new _ why = absurd why
 
 module _ (c : Compare) (old new : FilesTold) (text : List ℕ) (table : Table) (loaded : IsLoaded longest_table text (old c.table_path)) (is : table_of text ≡ accepted table) where
   pub root_fails : (status : Status) → FailsToFind table c.root_name status → Refuses c old new status
-  root_fails NoSuchShape why = (text, loaded, (table, is, why))
-  root_fails NotAStructure why = (text, loaded, (table, is, why))
+  root_fails NoSuchShape why = inl (text, loaded, (table, is, why))
+  root_fails NotAStructure why = inl (text, loaded, (table, is, why))
   root_fails _ why = absurd why
 
   module _ (root : ℕ) (there : IsRoot c.root_name table root) where
@@ -79,17 +79,20 @@ module _ (c : Compare) (old new : FilesTold) (text : List ℕ) (table : Table) (
       second_fails before _ kept steady later why = absurd why
 
       module _ (second : List ℕ) (second_loaded : IsLoaded longest_input second (old c.second.path)) where
+        body_fails : (error : CompareError) → Answers c table root first second (Err error) → RefusesBody c old (status_of_compare_error error)
+        body_fails error told = (text, loaded, (table, is, (root, there, (first, first_loaded, (second, second_loaded, (error, told, refl))))))
+
         refused_by : (error : CompareError) → Answers c table root first second (Err error) → Refuses c old new (status_of_compare_error error)
-        refused_by (First errors.InvalidInput) told = (text, loaded, (table, is, (root, there, (first, first_loaded, (second, second_loaded, told)))))
-        refused_by (First errors.TooDeep) told = (text, loaded, (table, is, (root, there, (first, first_loaded, (second, second_loaded, told)))))
-        refused_by (First errors.TooWide) told = (text, loaded, (table, is, (root, there, (first, first_loaded, (second, second_loaded, told)))))
-        refused_by (First errors.NotCarried) told = (text, loaded, (table, is, (root, there, (first, first_loaded, (second, second_loaded, told)))))
+        refused_by (First errors.InvalidInput) told = inr (body_fails (First errors.InvalidInput) told)
+        refused_by (First errors.TooDeep) told = inr (body_fails (First errors.TooDeep) told)
+        refused_by (First errors.TooWide) told = inr (body_fails (First errors.TooWide) told)
+        refused_by (First errors.NotCarried) told = inr (body_fails (First errors.NotCarried) told)
         refused_by (First (errors.Inexpressible u)) told = absurd told.says
         refused_by (First errors.NoMemory) told = tt
-        refused_by (Second errors.InvalidInput) told = (text, loaded, (table, is, (root, there, (first, first_loaded, (second, second_loaded, told)))))
-        refused_by (Second errors.TooDeep) told = (text, loaded, (table, is, (root, there, (first, first_loaded, (second, second_loaded, told)))))
-        refused_by (Second errors.TooWide) told = (text, loaded, (table, is, (root, there, (first, first_loaded, (second, second_loaded, told)))))
-        refused_by (Second errors.NotCarried) told = (text, loaded, (table, is, (root, there, (first, first_loaded, (second, second_loaded, told)))))
+        refused_by (Second errors.InvalidInput) told = inr (body_fails (Second errors.InvalidInput) told)
+        refused_by (Second errors.TooDeep) told = inr (body_fails (Second errors.TooDeep) told)
+        refused_by (Second errors.TooWide) told = inr (body_fails (Second errors.TooWide) told)
+        refused_by (Second errors.NotCarried) told = inr (body_fails (Second errors.NotCarried) told)
         refused_by (Second (errors.Inexpressible u)) told = absurd told.says.1
         refused_by (Second errors.NoMemory) told = tt
         refused_by NoMemory told = tt

@@ -8,10 +8,10 @@ use Rattle.smithy_transcode.specs.Wires.{unfit}
 use Rattle.smithy_transcode.proofs.Transcodings.{one_value, not_both}
 use Rattle.smithy_commands.specs.declared.status.Status.{Status}
 use Rattle.smithy_commands.specs.declared.status.Status.TheVariants.{Done, ReadFailed, WriteFailed, OutOfMemory, InvalidInput, TooDeep, TooWide, NotCarried, Inexpressible, TableRefused, NoSuchShape, NotAStructure, TooLong}
-use Rattle.smithy_commands.specs.Task.{Task}
+use Rattle.smithy_commands.specs.Transcode.{Transcode}
 use Rattle.smithy_outside.specs.Outside.{Shown, Outside, missing, Shows, GavePast}
 use Rattle.smithy_commands.specs.Checks.{longest_table, longest_input, IsLoaded, IsRead, AfterInput}
-use Rattle.smithy_commands.specs.TranscodeAnswer.{sources_of, IsInOrder, Says}
+use Rattle.smithy_commands.specs.TranscodeAnswer.{sources_of, AllIsInOrder, Says}
 use Rattle.smithy_outside.proofs.Faults.{has_failed, steady_meets_none}
 use Rattle.smithy_outside.proofs.Moved.{gave_longer}
 
@@ -19,10 +19,10 @@ use Rattle.smithy_outside.proofs.Moved.{gave_longer}
 past_limit : (limit : ℕ) (a b : Shown) (was : List ℕ) → GavePast limit a b → Shows a was → limit < length was
 past_limit limit a b was past told = gave_longer limit past.0 a b past.1 (omega (arith, past.2)) was told
 
-module _ (task : Task) (old new : Outside) (text input : List ℕ) (table : Table) (root : ℕ) (v : Value) (o : IsInOrder task old new text input table root v) where
+module _ (task : Transcode) (old new : Outside) (text input : List ℕ) (table : Table) (root : ℕ) (v : Value) (o : AllIsInOrder task old new text input table root v) where
   -- what was loaded is the table
   accepted_there : (found : List ℕ) → IsLoaded longest_table found (old.files task.table_path) → table_of found ≡ accepted table
-  accepted_there found loaded = subst (λ (t : List ℕ). table_of t ≡ accepted table) (sym (loaded.whole text o.file)) o.accepted_as
+  accepted_there found loaded = subst (λ (t : List ℕ). table_of t ≡ accepted table) (sym (loaded.whole text o.file.told)) o.accepted_as
 
   same_table : (found : List ℕ) → IsLoaded longest_table found (old.files task.table_path) → (other : Table) → table_of found ≡ accepted other → table ≡ other
   same_table found loaded other is = let same = accepted_there found loaded in cc (same, is)
@@ -39,7 +39,7 @@ module _ (task : Task) (old new : Outside) (text input : List ℕ) (table : Tabl
   -- the input that was read spells the value
   spells_there : (other : Table) (n : ℕ) (bytes : List ℕ) → table ≡ other → root ≡ n → IsRead bytes old.input new.input → Spells task.from other n bytes v
   spells_there other n bytes t r read =
-      subst (λ (bs : List ℕ). Spells task.from other n bs v) (sym (read.whole input o.source))
+      subst (λ (bs : List ℕ). Spells task.from other n bs v) (sym (read.whole input o.source.told))
       (subst (λ (m : ℕ). Spells task.from other m input v) r (subst (λ (u : Table). Spells task.from u root input v) t o.spells))
 
   -- and the wanted wire can express it there
@@ -57,8 +57,8 @@ module _ (task : Task) (old new : Outside) (text input : List ℕ) (table : Tabl
 
   pub complete_of : (status : Status) → Says task old new status → (status ≡ Done) ⊎ (status ≡ OutOfMemory)
   complete_of Done says = inl refl
-  complete_of ReadFailed (inl first) = absurd (o.file_is_well (has_failed (old.files task.table_path) (new.files task.table_path) first.1))
-  complete_of ReadFailed (inr after) = absurd (o.input_is_well (has_failed old.input new.input after.2.2.2.1))
+  complete_of ReadFailed (inl first) = absurd (o.file.well (has_failed (old.files task.table_path) (new.files task.table_path) first.1))
+  complete_of ReadFailed (inr after) = absurd (o.source.well (has_failed old.input new.input after.2.2.2.1))
   complete_of WriteFailed says = absurd (o.out_is_well (has_failed old.out new.out says.2.2.2.2.4.0))
   complete_of OutOfMemory says = inr refl
   complete_of InvalidInput says =
@@ -97,12 +97,12 @@ module _ (task : Task) (old new : Outside) (text input : List ℕ) (table : Tabl
       let t = same_table after.0 after.1 other after.2.1 in
       let n = after.2.2.0 in
       absurd (after.2.2.2 (subst (λ (m : ℕ). IsStructure (kind_of other (shape_place m))) (same_root other t n after.2.2.1) (structure_there other t)))
-  complete_of TooLong (inl first) = let more = first.1.1 text o.file in absurd (omega (arith, more, o.file_is_within))
+  complete_of TooLong (inl first) = let more = first.1.1 text o.file.told in absurd (omega (arith, more, o.file.within))
   complete_of TooLong (inr after) =
-      let more = past_limit longest_input old.input new.input input after.2.2.2 o.source in absurd (omega (arith, more, o.input_is_within))
-  complete_of _ says = absurd says
+      let more = past_limit longest_input old.input new.input input after.2.2.2 o.source.told in absurd (omega (arith, more, o.source.within))
+  complete_of _ says = absurd says.1
 
-pub fault_of_missing : (task : Task) (old new : Outside) → (old.files task.table_path).content ≡ missing → (status : Status) → Says task old new status
+pub fault_of_missing : (task : Transcode) (old new : Outside) → (old.files task.table_path).content ≡ missing → (status : Status) → Says task old new status
     → (status ≡ ReadFailed) ⊎ (status ≡ OutOfMemory)
 fault_of_missing task old new gone Done says = absurd (says.1.there gone)
 fault_of_missing task old new gone ReadFailed says = inl refl
@@ -118,10 +118,10 @@ fault_of_missing task old new gone NoSuchShape says = absurd (says.1.1.there gon
 fault_of_missing task old new gone NotAStructure says = absurd (says.1.1.there gone)
 fault_of_missing task old new gone TooLong (inl first) = absurd (first.1.0 gone)
 fault_of_missing task old new gone TooLong (inr after) = absurd (after.1.there gone)
-fault_of_missing task old new gone _ says = absurd says
+fault_of_missing task old new gone _ says = absurd says.1
 
 -- a task that meets no fault, as all that it reads and writes is steady
-pub steady_of : (task : Task) (old new : Outside) → (old.files task.table_path).is_steady ≡ true → old.input.is_steady ≡ true → old.out.is_steady ≡ true
+pub steady_of : (task : Transcode) (old new : Outside) → (old.files task.table_path).is_steady ≡ true → old.input.is_steady ≡ true → old.out.is_steady ≡ true
     → (status : Status) → Says task old new status → (status ≢ ReadFailed) × (status ≢ WriteFailed)
 steady_of task old new file input out status says = (
   λ e. read_fails_not (subst (Says task old new) e says),

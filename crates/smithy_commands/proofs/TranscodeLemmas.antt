@@ -2,7 +2,7 @@
 use Rattle.std.proofs.Common.{◌≡◌, ◌≢◌, ◌≤◌, ◌+◌, ℕ, List, [], Bool, length, true, false, refl, subst, arith}
 use Rattle.smithy_commands.specs.declared.status.Status.{Status}
 use Rattle.smithy_commands.specs.declared.status.Status.TheVariants.{Done, Usage, ReadFailed, WriteFailed, OutOfMemory, Differs}
-use Rattle.smithy_commands.specs.Task.{Task}
+use Rattle.smithy_commands.specs.Transcode.{Transcode}
 use Rattle.smithy_outside.specs.Outside.{Shown, Outside, outside, MetNoFault, Gave}
 use Rattle.smithy_commands.specs.Checks.{longest_input}
 use Rattle.smithy_commands.specs.Status.{is_answer}
@@ -11,15 +11,15 @@ use Rattle.smithy_outside.proofs.Moved.{gave_nothing}
 use Rattle.smithy_commands.proofs.Complete.{complete_of, fault_of_missing, steady_of}
 
 -- the one answer is a body
-answer_is_done : (task : Task) (old new : Outside) (status : Status) → Says task old new status → is_answer status ≡ true → status ≡ Done
+answer_is_done : (task : Transcode) (old new : Outside) (status : Status) → Says task old new status → is_answer status ≡ true → status ≡ Done
 answer_is_done task old new Done says answer = refl
-answer_is_done task old new Differs says answer = absurd says
+answer_is_done task old new Differs says answer = absurd says.1
 answer_is_done task old new _ says answer = cc
 
 done_is_answer : (status : Status) → is_answer status ≡ false → status ≢ Done
 done_is_answer status other = λ done. absurd (let e : true ≡ false = subst (λ (s : Status). is_answer s ≡ false) done other in cc)
 
-pub answer_of_task : (task : Task) (old new : Outside) (status : Status) → Says task old new status
+pub answer_of_task : (task : Transcode) (old new : Outside) (status : Status) → Says task old new status
     → (bytes : List ℕ) × Gave bytes old.input new.input × (length bytes ≤ longest_input + 1)
     → (status ≡ Done → new.out_holds_back ≡ false)
     → (status ≢ Done → status ≢ WriteFailed → (new.out ≡ old.out) × (new.out_holds_back ≡ old.out_holds_back))
@@ -43,12 +43,12 @@ answer_of_task task old new status says no_further finished untouched table_is_w
 }
 
 -- memory for the task is wanting
-pub answer_without_task : (task : Task) (files : List ℕ → Shown) (input out err err_behind : Shown) (out_holds_back err_held err_held_behind : Bool)
+pub answer_without_task : (task : Transcode) (files : List ℕ → Shown) (input out err err_behind : Shown) (out_holds_back err_held err_held_behind : Bool)
     → TranscodeAnswer task (outside files input out err out_holds_back err_held) (outside files input out err_behind out_holds_back err_held_behind) OutOfMemory
 answer_without_task task files input out err err_behind out_holds_back err_held err_held_behind =
     answer_of_task task (outside files input out err out_holds_back err_held) (outside files input out err_behind out_holds_back err_held_behind) OutOfMemory
     tt ([], gave_nothing input, omega arith) (λ done. absurd (let e : OutOfMemory ≡ Done = done in cc)) (λ a b. (refl, refl)) (λ other. (refl, refl))
     (λ other. (refl, refl)) (λ other. (refl, refl))
 
-pub transcode_is_no_usage : (task : Task) (old new : Outside) (status : Status) → TranscodeAnswer task old new status → status ≢ Usage
-transcode_is_no_usage task old new status answer = λ e. absurd (subst (Says task old new) e answer.says)
+pub transcode_is_no_usage : (task : Transcode) (old new : Outside) (status : Status) → TranscodeAnswer task old new status → status ≢ Usage
+transcode_is_no_usage task old new status answer = λ e. absurd (subst (Says task old new) e answer.says).1

@@ -7,7 +7,7 @@ use Rattle.smithy_commands.specs.declared.status.Status.{Status}
 use Rattle.smithy_commands.specs.declared.status.Status.TheVariants.{WriteFailed, TableRefused, NoSuchShape, NotAStructure}
 use Rattle.smithy_commands.specs.ErrorLine.{refusal_of}
 use Rattle.smithy_commands.specs.Status.{is_answer}
-use Rattle.smithy_outside.specs.Outside.{Shown, Outside, missing, MetNoFault, IsWhole, IsLonger, IsAtEnd}
+use Rattle.smithy_outside.specs.Outside.{Shown, Outside, missing, HasFailed, MetNoFault, Shows, IsWhole, IsLonger, IsAtEnd}
 
 -- in bytes
 abbrev pub longest_table : ℕ
@@ -37,6 +37,12 @@ pub record IsRead (bytes : List ℕ) (old new : Shown) : Type 0 where
   pub whole : IsWhole bytes old
   pub to_the_end : IsAtEnd new
   pub within : length bytes ≤ longest_input
+
+-- an object told these bytes, which are within the limit, and its count didn't rise
+pub record IsInOrder (limit : ℕ) (bytes : List ℕ) (old new : Shown) : Type 0 where
+  pub told : Shows old bytes
+  pub within : length bytes ≤ limit
+  pub well : ¬ (HasFailed old new)
 
 -- the declaration of that number has the name of the root, and is a structure
 pub record IsRoot (root_name : List ℕ) (table : Table) (root : ℕ) : Type 0 where
@@ -68,7 +74,8 @@ BeforeInput old new P = (new.input ≡ old.input) × P
 
 -- the answer is the fault with its number
 abbrev pub IsRefusal : TableFault → TableAnswer → Type 0
-IsRefusal fault answer = (f : Fault) × (n : ℕ) × (answer ≡ refused f n) × (refusal_of fault ≡ Some (f, n))
+IsRefusal fault answer =
+    (f : Fault) × (name : List ℕ) × (n : ℕ) × (answer ≡ refused f n) × (refusal_of fault ≡ Some (f, name, n))
 
 -- by the status: the text of the table is refused, the table doesn't declare the root, or not as a structure
 abbrev pub RefusesTable : List ℕ → Shown → Status → Type 0

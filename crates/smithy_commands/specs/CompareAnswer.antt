@@ -1,22 +1,19 @@
 -- What a status says where the words are `compare`.
-use Rattle.std.specs.Prelude.{◌≡◌, ◌≢◌, ◌⊎◌, ◌≤◌, ◌++◌, ℕ, List, length, Ok, Err, true, false, codes}
+use Rattle.std.specs.Prelude.{◌≡◌, ◌≢◌, ◌⊎◌, ◌++◌, ℕ, List, Ok, Err, true, false, codes}
 use Rattle.smithy_declarations.specs.Table.{Table}
 use Rattle.smithy_declarations.specs.Acceptance.{accepted, table_of}
-use Rattle.smithy_transcode.specs.declared.wire.TranscodeError.TheVariants as errors
 use Rattle.smithy_compare.specs.Compares.{Answer, Compares}
 use Rattle.smithy_compare.specs.PathText.{text_of_path}
 use Rattle.smithy_compare.specs.View.{path_of}
 use Rattle.smithy_compare.specs.declared.comparing.Compared.{Compared}
 use Rattle.smithy_compare.specs.declared.comparing.Compared.TheVariants as compared
 use Rattle.smithy_compare.specs.declared.comparing.CompareError.{CompareError}
-use Rattle.smithy_compare.specs.declared.comparing.CompareError.TheVariants.{First, Second}
 use Rattle.smithy_commands.specs.declared.status.Status.{Status}
-use Rattle.smithy_commands.specs.declared.status.Status.TheVariants.{Done, ReadFailed, WriteFailed, OutOfMemory, InvalidInput, TooDeep, TooWide, NotCarried, TooLong, Differs, SecondInvalidInput, SecondTooDeep, SecondTooWide, SecondNotCarried}
+use Rattle.smithy_commands.specs.declared.status.Status.TheVariants.{Done, ReadFailed, WriteFailed, OutOfMemory, TooLong, Differs}
 use Rattle.smithy_commands.specs.Compare.{Compare}
-use Rattle.smithy_commands.specs.Task.{asked_wire}
-use Rattle.smithy_commands.specs.Status.{status_of_comparison}
-use Rattle.smithy_commands.specs.Checks.{longest_table, longest_input, IsLoaded, IsTooLong, IsRoot, AfterRoot, RefusesTable, WritesAtOnce}
-use Rattle.smithy_outside.specs.Outside.{Shown, Outside, HasFailed, MetOneFault, Shows, Took, TookPrefix}
+use Rattle.smithy_commands.specs.Status.{status_of_comparison, status_of_compare_error}
+use Rattle.smithy_commands.specs.Checks.{longest_table, longest_input, IsLoaded, IsTooLong, IsInOrder, IsRoot, AfterRoot, RefusesTable, WritesAtOnce}
+use Rattle.smithy_outside.specs.Outside.{Shown, Outside, HasFailed, MetOneFault, Took, TookPrefix}
 
 -- what each path tells at one moment
 abbrev pub FilesTold : Type 0
@@ -49,16 +46,14 @@ AtOneOfThem c files P =
 
 -- `compare` answers so of two bodies in the wires of the words
 abbrev pub Answers : Compare → Table → ℕ → (first second : List ℕ) → Answer → Type 0
-Answers c table root first second =
-    Compares table root (asked_wire c.first.wire) first (asked_wire c.second.wire) second
+Answers c table root first second = Compares table root c.first.wire first c.second.wire second
 
 -- ---- what was found
 
 -- the line that tells it
 abbrev pub answer_line : Table → ℕ → Compared → List ℕ
 answer_line table root compared.Same = codes "same\n"
-answer_line table root (compared.Differs path) =
-    codes "differs at " ++ text_of_path table root (path_of path) ++ codes "\n"
+answer_line table root (compared.Differs path) = codes "differs at " ++ text_of_path table root (path_of path) ++ codes "\n"
 
 -- both bodies spell values, and P holds of what was found and of its line
 abbrev pub AfterComparing : Compare → FilesTold → (Compared → List ℕ → Type 0) → Type 0
@@ -66,24 +61,18 @@ AfterComparing c files P =
     AfterBoth c files
     (λ table root first second. (found : Compared) × Answers c table root first second (Ok found) × P found (answer_line table root found))
 
--- a body is refused by this error
-abbrev pub RefusesBody : Compare → FilesTold → CompareError → Type 0
-RefusesBody c files error = AfterBoth c files (λ table root first second. Answers c table root first second (Err error))
+-- a body is refused by an error that has this status
+abbrev pub RefusesBody : Compare → FilesTold → Status → Type 0
+RefusesBody c files status =
+    AfterBoth c files
+    (λ table root first second. (e : CompareError) × Answers c table root first second (Err e) × (status ≡ status_of_compare_error e))
 
 -- why nothing was written
 abbrev pub Refuses : Compare → (old new : FilesTold) → Status → Type 0
 Refuses c old new ReadFailed = AtOneOfThem c old (λ limit path. MetFault (old path) (new path))
 Refuses c old new TooLong = AtOneOfThem c old (λ limit path. IsTooLong limit (old path))
 Refuses c old new OutOfMemory = Unit {0}
-Refuses c old new InvalidInput = RefusesBody c old (First errors.InvalidInput)
-Refuses c old new TooDeep = RefusesBody c old (First errors.TooDeep)
-Refuses c old new TooWide = RefusesBody c old (First errors.TooWide)
-Refuses c old new NotCarried = RefusesBody c old (First errors.NotCarried)
-Refuses c old new SecondInvalidInput = RefusesBody c old (Second errors.InvalidInput)
-Refuses c old new SecondTooDeep = RefusesBody c old (Second errors.TooDeep)
-Refuses c old new SecondTooWide = RefusesBody c old (Second errors.TooWide)
-Refuses c old new SecondNotCarried = RefusesBody c old (Second errors.NotCarried)
-Refuses c old new status = RefusesTable c.root_name (old c.table_path) status
+Refuses c old new status = RefusesTable c.root_name (old c.table_path) status ⊎ RefusesBody c old status
 
 -- what a status says
 abbrev pub Says : Compare → Outside → Outside → Status → Type 0
@@ -94,19 +83,13 @@ Says c old new WriteFailed =
 Says c old new status = Refuses c old.files new.files status
 
 -- all is told and in order, but for what the bodies are, and no count rose
-pub record IsInOrder (c : Compare) (old new : Outside) (text first second : List ℕ)
+pub record AllIsInOrder (c : Compare) (old new : Outside) (text first second : List ℕ)
     (table : Table) (root : ℕ) : Type 0 where
-  pub file : Shows (old.files c.table_path) text
-  pub file_is_within : length text ≤ longest_table
+  pub file : IsInOrder longest_table text (old.files c.table_path) (new.files c.table_path)
   pub accepted_as : table_of text ≡ accepted table
   pub is_root : IsRoot c.root_name table root
-  pub first_file : Shows (old.files c.first.path) first
-  pub first_is_within : length first ≤ longest_input
-  pub second_file : Shows (old.files c.second.path) second
-  pub second_is_within : length second ≤ longest_input
-  pub file_is_well : ¬ (HasFailed (old.files c.table_path) (new.files c.table_path))
-  pub first_is_well : ¬ (HasFailed (old.files c.first.path) (new.files c.first.path))
-  pub second_is_well : ¬ (HasFailed (old.files c.second.path) (new.files c.second.path))
+  pub first_file : IsInOrder longest_input first (old.files c.first.path) (new.files c.first.path)
+  pub second_file : IsInOrder longest_input second (old.files c.second.path) (new.files c.second.path)
   pub out_is_well : ¬ (HasFailed old.out new.out)
 
 -- What a status says where the words name these files.
@@ -116,8 +99,7 @@ pub record CompareAnswer (c : Compare) (old new : Outside) (status : Status) : T
   pub input_is_untouched : new.input ≡ old.input
   -- where all is told and in order and no count rose, the status is that of an answer for these bodies, want of memory aside
   pub complete : (text first second : List ℕ) (table : Table) (root : ℕ)
-      → IsInOrder c old new text first second table root
-      → (status ≡ OutOfMemory)
+      → AllIsInOrder c old new text first second table root → (status ≡ OutOfMemory)
       ⊎ ((answer : Answer) × Answers c table root first second answer × (status ≡ status_of_comparison answer))
   -- over files and an output that are told to be steady neither 6 nor 7 comes
   pub steady_never_fails : (old.files c.table_path).is_steady ≡ true → (old.files c.first.path).is_steady ≡ true

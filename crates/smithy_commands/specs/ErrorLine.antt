@@ -8,36 +8,23 @@ use Rattle.smithy_commands.specs.declared.status.Status.{Status}
 use Rattle.smithy_transcode.specs.declared.wire.Unfit.TheVariants.{Document, Null, Instant}
 use Rattle.smithy_commands.specs.declared.status.Status.TheVariants.{Done, Usage, ReadFailed, WriteFailed, OutOfMemory, InvalidInput, TooDeep, TooWide, NotCarried, Inexpressible, TableRefused, NoSuchShape, NotAStructure, TooLong, Differs, SecondInvalidInput, SecondTooDeep, SecondTooWide, SecondNotCarried}
 
--- the name of a fault
-abbrev pub fault_name : Fault → List ℕ
-fault_name bad_line = codes "BadLine"
-fault_name float_shape = codes "FloatShape"
-fault_name unknown_target = codes "UnknownTarget"
-fault_name unknown_time_format = codes "UnknownTimeFormat"
-fault_name duplicate_shape = codes "DuplicateShape"
-fault_name name_clash = codes "NameClash"
-fault_name query_name = codes "QueryName"
-fault_name key_value_name = codes "KeyValueName"
-fault_name sparse_document = codes "SparseDocument"
-fault_name too_many = codes "TooMany"
-
--- The fault of a table that is refused, and its number. Want of memory refuses no table: it has a status of its own.
-abbrev pub refusal_of : TableFault → Option (Fault × ℕ)
-refusal_of (table_faults.BadLine n) = Some (bad_line, n)
-refusal_of (table_faults.FloatShape n) = Some (float_shape, n)
-refusal_of (table_faults.UnknownTarget n) = Some (unknown_target, n)
-refusal_of (table_faults.UnknownTimeFormat n) = Some (unknown_time_format, n)
-refusal_of (table_faults.DuplicateShape n) = Some (duplicate_shape, n)
-refusal_of (table_faults.NameClash n) = Some (name_clash, n)
-refusal_of (table_faults.QueryName n) = Some (query_name, n)
-refusal_of (table_faults.KeyValueName n) = Some (key_value_name, n)
-refusal_of (table_faults.SparseDocument n) = Some (sparse_document, n)
-refusal_of (table_faults.TooMany n) = Some (too_many, n)
+-- The fault of a table that is refused, its name and its number. Want of memory refuses no table: it has a status of its own.
+abbrev pub refusal_of : TableFault → Option (Fault × List ℕ × ℕ)
+refusal_of (table_faults.BadLine n) = Some (bad_line, codes "BadLine", n)
+refusal_of (table_faults.FloatShape n) = Some (float_shape, codes "FloatShape", n)
+refusal_of (table_faults.UnknownTarget n) = Some (unknown_target, codes "UnknownTarget", n)
+refusal_of (table_faults.UnknownTimeFormat n) = Some (unknown_time_format, codes "UnknownTimeFormat", n)
+refusal_of (table_faults.DuplicateShape n) = Some (duplicate_shape, codes "DuplicateShape", n)
+refusal_of (table_faults.NameClash n) = Some (name_clash, codes "NameClash", n)
+refusal_of (table_faults.QueryName n) = Some (query_name, codes "QueryName", n)
+refusal_of (table_faults.KeyValueName n) = Some (key_value_name, codes "KeyValueName", n)
+refusal_of (table_faults.SparseDocument n) = Some (sparse_document, codes "SparseDocument", n)
+refusal_of (table_faults.TooMany n) = Some (too_many, codes "TooMany", n)
 refusal_of _ = None
 
 -- the name of a fault, a space and its number
-abbrev pub refusal_text : Fault × ℕ → List ℕ
-refusal_text refusal = fault_name refusal.0 ++ codes " " ++ decimal refusal.1
+abbrev pub refusal_text : Fault × List ℕ × ℕ → List ℕ
+refusal_text refusal = refusal.1 ++ codes " " ++ decimal refusal.2
 
 -- what the line of a status says; that of a refused table names the fault, and an answer has no line
 abbrev pub text_of : Status → List ℕ
@@ -53,8 +40,7 @@ text_of NotCarried = codes "not carried"
 text_of (Inexpressible Document) = codes "document not expressible"
 text_of (Inexpressible Null) = codes "null not expressible"
 text_of (Inexpressible Instant) = codes "instant not expressible"
-text_of (TableRefused fault) =
-    codes "table refused: " ++ option_map_or refusal_text (refusal_of fault) []
+text_of (TableRefused fault) = codes "table refused: " ++ option_map_or refusal_text (refusal_of fault) []
 text_of NoSuchShape = codes "no such shape"
 text_of NotAStructure = codes "not a structure"
 text_of TooLong = codes "too long"

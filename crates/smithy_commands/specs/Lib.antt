@@ -4,7 +4,6 @@ pub mod SmallNumber
 pub mod Gen
 pub mod Compare
 pub mod Command
-pub mod Task
 pub mod Status
 pub mod ErrorLine
 pub mod Checks

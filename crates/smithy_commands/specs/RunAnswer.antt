@@ -3,7 +3,6 @@ use Rattle.std.specs.Prelude.{◌≡◌, ◌↔◌, ℕ, List, Some, None, true,
 use Rattle.smithy_commands.specs.declared.status.Status.{Status}
 use Rattle.smithy_commands.specs.declared.status.Status.TheVariants.{Usage}
 use Rattle.smithy_commands.specs.Command.{Command, transcode, gen, compare, command_of}
-use Rattle.smithy_commands.specs.Task.{task_of}
 use Rattle.smithy_commands.specs.TranscodeAnswer.{TranscodeAnswer}
 use Rattle.smithy_commands.specs.GenAnswer.{GenAnswer}
 use Rattle.smithy_commands.specs.CompareAnswer.{CompareAnswer}
@@ -13,7 +12,7 @@ use Rattle.smithy_outside.specs.Outside.{Outside, OnlyErrMoved, TookLine}
 
 -- what a status says where the words are this command
 abbrev pub CommandAnswer : Command → Outside → Outside → Status → Type 0
-CommandAnswer (transcode c) = TranscodeAnswer (task_of c)
+CommandAnswer (transcode c) = TranscodeAnswer c
 CommandAnswer (gen c) = GenAnswer c
 CommandAnswer (compare c) = CompareAnswer c
 

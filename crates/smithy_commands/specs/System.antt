@@ -26,8 +26,7 @@ EndsAsRun words code = ((new : Outside) × RunAnswer words at_start new code) �
 
 -- the status where the arguments weren't read, by the error
 abbrev pub IsUnread : ErrorKind → Status → Type 0
-IsUnread kind status =
-    (kind ≡ kinds.OutOfMemory → status ≡ OutOfMemory) × (kind ≢ kinds.OutOfMemory → status ≡ Usage)
+IsUnread kind status = (kind ≡ kinds.OutOfMemory → status ≡ OutOfMemory) × (kind ≢ kinds.OutOfMemory → status ≡ Usage)
 
 -- a process whose arguments weren't read ends with this status
 abbrev pub EndsUnread : ErrorKind → ℕ → Type 0

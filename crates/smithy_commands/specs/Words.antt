@@ -1,5 +1,6 @@
 -- What the types of a command stand for.
-use Rattle.smithy_transcode.specs.Wires.{wire_of}
+use Rattle.std.specs.Prelude.{true, false}
+use Rattle.smithy_transcode.specs.Wires.{Wire, json, cbor, query, wire_of}
 use Rattle.smithy_commands.specs.declared.transcode_words.WireWords.{WireWords}
 use Rattle.smithy_commands.specs.declared.transcode_words.WireWords.TheVariants.{Json, JsonName, JsonIntegral, JsonNameIntegral, Cbor, CborDefinite, Query}
 use Rattle.smithy_commands.specs.declared.transcode_words.Transcode as kept_transcode
@@ -9,20 +10,19 @@ use Rattle.smithy_commands.specs.declared.compare_words.Recorded as kept_recorde
 use Rattle.smithy_commands.specs.declared.words.Command as kept_command
 use Rattle.smithy_commands.specs.declared.words.Command.TheVariants as commands
 use Rattle.smithy_commands.specs.declared.task.Task as kept_task
-use Rattle.smithy_commands.specs.Transcode.{NamedWire, json, json_name, json_integral, json_name_integral, cbor, cbor_definite, query, Transcode}
+use Rattle.smithy_commands.specs.Transcode.{Transcode}
 use Rattle.smithy_commands.specs.Gen.{Gen}
 use Rattle.smithy_commands.specs.Compare.{Recorded, Compare}
 use Rattle.smithy_commands.specs.Command.{Command, transcode, gen, compare}
-use Rattle.smithy_commands.specs.Task.{Task}
 
 -- the wire that the words name
-abbrev pub named_wire : WireWords → NamedWire
-named_wire Json = json
-named_wire JsonName = json_name
-named_wire JsonIntegral = json_integral
-named_wire JsonNameIntegral = json_name_integral
-named_wire Cbor = cbor
-named_wire CborDefinite = cbor_definite
+abbrev pub named_wire : WireWords → Wire
+named_wire Json = json false false
+named_wire JsonName = json true false
+named_wire JsonIntegral = json false true
+named_wire JsonNameIntegral = json true true
+named_wire Cbor = cbor false
+named_wire CborDefinite = cbor true
 named_wire (Query action version) = query action.now version.now
 
 -- `transcode` as plain data
@@ -53,7 +53,7 @@ command_view (commands.Transcode c) = transcode (transcode_view c)
 command_view (commands.Gen c) = gen (gen_view c)
 command_view (commands.Compare c) = compare (compare_view c)
 
--- the task as plain data
-abbrev pub task_view : kept_task.Task → Task
+-- the command that the task is of, as plain data
+abbrev pub task_view : kept_task.Task → Transcode
 task_view t =
     record { table_path = t.table.now; root_name = t.root.now; from = wire_of t.from; to = wire_of t.to }

@@ -1,7 +1,6 @@
 //! What `transcode` asks for.
 ghost use Rattle.std.specs.Prelude.{◌≡◌, IfOk, string_bytes};
 ghost use Rattle.smithy_transcode.specs.Wires.{json, wire_of};
-ghost use Rattle.smithy_commands.specs.Task.{asked_wire, task_of};
 ghost use Rattle.smithy_commands.specs.Words.{named_wire, transcode_view, task_view};
 
 use crate::transcode_words::{Transcode, WireWords};
@@ -42,7 +41,7 @@ fn json(use_json_name: bool, integral: bool) -> Wire
 
 // The wire that the words name.
 pub(crate) fn wire_of_words(alloc: Global, words: WireWords<'_>) -> Result<Wire, AllocError>
-    ensures { IfOk result (λ wire. wire_of wire ≡ asked_wire (named_wire words.entry)) }
+    ensures { IfOk result (λ wire. wire_of wire ≡ named_wire words.entry) }
 {
     match words {
         WireWords::Json => Ok(json(false, false)),
@@ -61,7 +60,7 @@ pub(crate) fn wire_of_words(alloc: Global, words: WireWords<'_>) -> Result<Wire,
 impl<'a> Task<'a> {
     /// The task of a command.
     pub fn of_command(alloc: Global, command: Transcode<'a>) -> Result<Task<'a>, AllocError>
-        ensures { IfOk result (λ task. task_view task ≡ task_of (transcode_view command.entry)) }
+        ensures { IfOk result (λ task. task_view task ≡ transcode_view command.entry) }
     {
         Ok(Task {
             table: command.table,

@@ -2,7 +2,6 @@
 ghost use Rattle.std.specs.Prelude.{◌≡◌, ◌≢◌, ◌≤◌, ◌+◌, ℕ, List, Bool, false, length, IfOk, IfErr};
 ghost use Rattle.smithy_outside.specs.Outside.{Shown, MetNoFault, Gave, outside};
 ghost use Rattle.smithy_commands.specs.Checks.{longest_input};
-ghost use Rattle.smithy_commands.specs.Task.{task_of};
 ghost use Rattle.smithy_commands.specs.Words.{transcode_view, task_view};
 ghost use Rattle.smithy_commands.specs.TranscodeAnswer.{AfterTranscoding, Refuses, Says, TranscodeAnswer};
 
@@ -77,7 +76,7 @@ pub(crate) fn transcode_input<F: Files, S: Source, K: Sink>(
     input: &mut S,
     out: &mut K,
 ) -> Status
-    ensures answer { (err err_behind : Shown) (err_holds_back err_holds_back_behind : Bool) → TranscodeAnswer (task_of (transcode_view command.entry))
+    ensures answer { (err err_behind : Shown) (err_holds_back err_holds_back_behind : Bool) → TranscodeAnswer (transcode_view command.entry)
         (outside (F.told files.old) (S.told input.old) (K.told out.old) err (K.holds_back out.old) err_holds_back)
         (outside (F.told files.new) (S.told input.new) (K.told out.new) err_behind (K.holds_back out.new) err_holds_back_behind) result }
     ensures kept { (at : List ℕ) → (F.told files.new at).content ≡ (F.told files.old at).content }

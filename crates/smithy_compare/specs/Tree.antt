@@ -14,17 +14,13 @@ pub data Step : Type 0 where
 -- what a value or a document is beside its parts
 pub data Top : Type 0 where
   scalar : ScalarValue → Top
-  null : Top
-  list : Top
-  map : Top
-  structure : Top
+  null list map structure : Top
   -- with the position of its member
   union : ℕ → Top
   document_null : Top
   -- a truth value, a whole number or a text
   document_scalar : ScalarValue → Top
-  array : Top
-  object : Top
+  array object : Top
 
 mutual
   pub data Tree : Type 0 where

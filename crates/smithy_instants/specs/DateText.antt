@@ -50,8 +50,7 @@ fraction_nanos (c ∷ digits) =
 
 -- how far the clock is ahead of UTC, in seconds: `Z` or `z` alone
 abbrev pub utc_offset : List ℕ → Option ℤ
-utc_offset text =
-    if bytes_eq text (codes "Z") || bytes_eq text (codes "z") then Some (pos 0) else None
+utc_offset text = if bytes_eq text (codes "Z") || bytes_eq text (codes "z") then Some (pos 0) else None
 
 -- the instant of a day, the seconds on its clock, a fraction, and how far the clock is ahead
 abbrev pub instant_of : Option ℤ → Option ℕ → Option ℕ → Option ℤ → Option ℤ
@@ -94,8 +93,7 @@ month_named name =
 
 -- a weekday, whichever day it is, and `, DD Mmm YYYY HH:MM:SS`
 abbrev pub begins_http_date : List ℕ → Bool
-begins_http_date text =
-    begins_with_layout (codes "***, 00 *** 0000 00:00:00") text && is_weekday (take 3 text)
+begins_http_date text = begins_with_layout (codes "***, 00 *** 0000 00:00:00") text && is_weekday (take 3 text)
 
 -- 0 where the text is ` GMT`
 abbrev pub gmt_offset : List ℕ → Option ℤ
@@ -142,5 +140,4 @@ abbrev pub date_of : Format → List ℕ → Option ℤ
 date_of DateTime text = date_time_nanos (offset_of false) text
 date_of DateTimeWithOffset text = date_time_nanos (offset_of true) text
 date_of HttpDate text = http_date_nanos text
-date_of EpochSeconds text =
-    if is_epoch_text text then option_and_then where_instant (epoch_nanos text) else None
+date_of EpochSeconds text = if is_epoch_text text then option_and_then where_instant (epoch_nanos text) else None

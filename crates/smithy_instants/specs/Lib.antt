@@ -7,4 +7,5 @@ pub mod Calendar
 pub mod DateText
 pub mod WrittenDate
 pub mod DateFront
+pub mod Answers
 pub mod Private

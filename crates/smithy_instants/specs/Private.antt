@@ -1,1 +1,2 @@
 pub mod FrontLength
+pub mod Dates

@@ -18,8 +18,7 @@ padded_digits (suc width) n = padded_digits width (n / 10) ++ (48 + n % 10) ∷ 
 -- the digits of n / 10 ^ width, until nothing is left
 abbrev pub fraction_digits : ℕ → ℕ → List ℕ
 fraction_digits zero n = []
-fraction_digits (suc width) n =
-    if n == 0 then [] else (48 + n / 10 ^ width) ∷ fraction_digits width (n % 10 ^ width)
+fraction_digits (suc width) n = if n == 0 then [] else (48 + n / 10 ^ width) ∷ fraction_digits width (n % 10 ^ width)
 
 -- nothing for 0, else a point and these digits
 unfoldable pub fraction_text : ℕ → ℕ → List ℕ

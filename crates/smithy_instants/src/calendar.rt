@@ -2,7 +2,8 @@
 
 ghost use Rattle.std.specs.Prelude.{◌≡◌, ◌<◌, ◌≤◌, IfSome, Some, option_map};
 ghost use Rattle.std.specs.Int.{IsInRange};
-ghost use Rattle.smithy_instants.specs.Calendar.{day_number, civil_date, CivilDate};
+ghost use Rattle.smithy_instants.specs.Calendar.{day_number, civil_date};
+ghost use Rattle.smithy_instants.specs.Private.Dates.{civil_of};
 
 use jiff_core::civil::Date;
 
@@ -29,7 +30,7 @@ pub(crate) struct YearMonthDay {
 
 /// The date with this day number, where its year is from 0 to 9999.
 pub(crate) fn civil_date(day: i64) -> Option<YearMonthDay>
-    ensures value { option_map (λ d. record { year = d.year; month = d.month; day = d.day }) result ≡ civil_date day }
+    ensures value { option_map civil_of result ≡ civil_date day }
     ensures bounds { IfSome result (λ d. (d.year < 10_000) × IsInRange 1 12 d.month × (d.day ≤ 31)) }
 {
     match Date::from_unix_epoch_day(day) {

@@ -4,6 +4,7 @@ ghost use Rattle.std.specs.Prelude.{◌≡◌, ◌+◌, ◌<◌, ◌≤◌, ◌^
 ghost use Rattle.std.specs.Int.{is_negative};
 ghost use Rattle.std.specs.Fmt.{WritesOnOk, sign_text};
 ghost use Rattle.smithy_instants.specs.Instant.{nanos_per_second};
+ghost use Rattle.smithy_instants.specs.Private.Dates.{civil_of, HasDigits};
 ghost use Rattle.smithy_instants.specs.WrittenDate.{padded_digits, fraction_digits, fraction_text, clock_text, day_text, date_time_text, epoch_text, printed_text};
 
 use crate::DateTime;
@@ -69,11 +70,9 @@ fn write_fraction<W: fmt::Write>(f: &mut fmt::Formatter<W>, width: u32, n: u32) 
 
 #[tactic(auto, unfolding(crate::specs::WrittenDate::day_text))]
 fn write_day<W: fmt::Write>(f: &mut fmt::Formatter<W>, date: YearMonthDay) -> fmt::Result
-    requires year { date.year < 10_000 }
-    requires month { date.month < 100 }
-    requires day { date.day < 100 }
+    requires { HasDigits date }
     ensures { WritesOnOk W.write_str_gives f.old result
-        (day_text (record { year = date.year; month = date.month; day = date.day })) f.new }
+        (day_text (civil_of date)) f.new }
 {
     write_four(f, u32::from(date.year))?;
     f.write_str("-")?;
@@ -100,13 +99,11 @@ fn write_date_time<W: fmt::Write>(
     seconds: u32,
     nanos: u32,
 ) -> fmt::Result
-    requires year { date.year < 10_000 }
-    requires month { date.month < 100 }
-    requires day { date.day < 100 }
+    requires date { HasDigits date }
     requires seconds { seconds < 86_400 }
     requires nanos { nanos < nanos_per_second }
     ensures { WritesOnOk W.write_str_gives f.old result
-        (date_time_text (record { year = date.year; month = date.month; day = date.day }) seconds nanos) f.new }
+        (date_time_text (civil_of date) seconds nanos) f.new }
 {
     write_day(f, date)?;
     f.write_str("T")?;

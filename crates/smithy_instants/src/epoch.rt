@@ -1,14 +1,14 @@
 //! Instants as texts of seconds from the epoch on.
 
-ghost use Rattle.std.specs.Prelude.{◌≡◌, ◌≢◌, ◌≤◌, ◌<◌, ◌*◌, ◌^◌, ◌%◌, ◌⊎◌, ◌≤ℤ◌, unsigned_abs, take, length, true, false, pos, neg_ℤ, ◌+ℤ◌, ℤ, Option, Some, None, IfOk, IfErr, IfSome, IsTrue, FitsSigned};
+ghost use Rattle.std.specs.Prelude.{◌≡◌, ◌≢◌, ◌≤◌, ◌<◌, ◌*◌, ◌^◌, ◌%◌, ◌⊎◌, ◌≤ℤ◌, unsigned_abs, take, length, true, pos, neg_ℤ, ◌+ℤ◌, IfSome, IsTrue, FitsSigned};
 ghost use Rattle.std.specs.Option.{SomeIff};
 ghost use Rattle.std.specs.Int.{is_in_range, w64, w128};
 ghost use Rattle.std.specs.Str.{byte};
 ghost use Rattle.smithy_texts.specs.Numeral.{are_digits, magnitude, begins_with, signed};
 ghost use Rattle.smithy_texts.specs.Decimal.{coefficient, net_exponent};
-ghost use Rattle.smithy_instants.specs.Epoch.{is_epoch, epoch_nanos, scaled};
+ghost use Rattle.smithy_instants.specs.Epoch.{is_epoch};
 ghost use Rattle.smithy_instants.specs.Instant.{is_instant};
-ghost use Rattle.smithy_instants.specs.declared.epoch.EpochError.TheVariants.{NotWhole, OutOfRange};
+ghost use Rattle.smithy_instants.specs.Answers.{ReadsEpoch};
 
 use crate::DateTime;
 use smithy_texts::decimal_text::{after_point, coefficient, is_decimal, written_exponent};
@@ -104,11 +104,7 @@ fn few_digits(text: &[u8]) -> Option<i64>
 
 /// The instant of a decimal text in seconds.
 pub fn read_epoch(text: &[u8]) -> Result<DateTime, EpochError>
-    ensures ok { IfOk result (λ d. epoch_nanos text.now ≡ Some d) }
-    ensures instant { IfOk result (λ d. is_instant d ≡ true) }
-    ensures whole { IfErr result (λ e. e ≡ NotWhole → epoch_nanos text.now ≡ None) }
-    ensures range { IfErr result (λ e. e ≡ OutOfRange
-        → (n : ℤ) × (epoch_nanos text.now ≡ Some n) × (is_instant n ≡ false)) }
+    ensures { ReadsEpoch text.now result }
 {
     match few_digits(text) {
         Some(seconds) => Ok(DateTime::from_secs(seconds)),
@@ -119,11 +115,7 @@ pub fn read_epoch(text: &[u8]) -> Result<DateTime, EpochError>
 // The instant of a decimal text in seconds, whatever its form.
 #[inline(never)]
 fn read_decimal(text: &[u8]) -> Result<DateTime, EpochError>
-    ensures ok { IfOk result (λ d. epoch_nanos text.now ≡ Some d) }
-    ensures instant { IfOk result (λ d. is_instant d ≡ true) }
-    ensures whole { IfErr result (λ e. e ≡ NotWhole → epoch_nanos text.now ≡ None) }
-    ensures range { IfErr result (λ e. e ≡ OutOfRange
-        → (n : ℤ) × (epoch_nanos text.now ≡ Some n) × (is_instant n ≡ false)) }
+    ensures { ReadsEpoch text.now result }
 {
     let Some(exponent) = epoch_exponent(text) else {
         return Err(EpochError::NotWhole);

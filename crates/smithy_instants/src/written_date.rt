@@ -1,9 +1,11 @@
 //! How instants are written.
 
-ghost use Rattle.std.specs.Prelude.{◌≡◌, ◌<◌, ◌≤◌, ◌^◌, ◌++◌, ◌-◌, [], ◌∷◌, neg_ℤ, pos, ◌≤ℤ◌, true, slice_index_or, OnOk, OnErr, Some, None, IfOk, IfErr, IsOk, is_some, ◌%◌, ◌==◌, ◌&&◌};
+ghost use Rattle.std.specs.Prelude.{◌≡◌, ◌<◌, ◌≤◌, ◌^◌, ◌++◌, ◌-◌, [], ◌∷◌, neg_ℤ, pos, ◌≤ℤ◌, true, slice_index_or, OnOk, Some, IfOk, IfErr, IsOk, is_some, ◌%◌, ◌==◌, ◌&&◌};
 ghost use Rattle.std.specs.String.{string_bytes};
 ghost use Rattle.smithy_instants.specs.WrittenDate.{padded_digits, fraction_digits, fraction_text, clock_text, day_text, date_time_text, http_date_text, epoch_text, day_of, second_of_day, weekday_names, month_names, date_text, written_date_time, written_http_date, holds};
-ghost use Rattle.smithy_instants.specs.declared.written_date.DateTimeFormatError.TheVariants.{NoMemory, OutOfRange};
+ghost use Rattle.smithy_instants.specs.Answers.{WritesText};
+ghost use Rattle.smithy_instants.specs.Private.Dates.{civil_of, HasDigits};
+ghost use Rattle.smithy_instants.specs.declared.written_date.DateTimeFormatError.TheVariants.{NoMemory};
 ghost use Rattle.smithy_instants.specs.declared.format.Format.TheVariants.{EpochSeconds};
 ghost use Rattle.smithy_instants.specs.Instant.{nanos_per_second, subsecond_of, is_instant};
 ghost use Rattle.smithy_instants.specs.Calendar.{civil_date};
@@ -84,11 +86,9 @@ fn push_clock(text: &mut String, seconds: u32) -> Result<(), AllocError>
 
 #[tactic(auto, unfolding(crate::specs::WrittenDate::day_text))]
 fn push_day(text: &mut String, date: YearMonthDay) -> Result<(), AllocError>
-    requires year { date.year < 10_000 }
-    requires month { date.month < 100 }
-    requires day { date.day < 100 }
+    requires { HasDigits date }
     ensures { OnOk result (string_bytes text.new ≡ string_bytes text.old
-        ++ day_text (record { year = date.year; month = date.month; day = date.day })) }
+        ++ day_text (civil_of date)) }
 {
     push_four(text, u32::from(date.year))?;
     text.push_str("-")?;
@@ -103,13 +103,11 @@ fn push_date_time(
     seconds: u32,
     nanos: u32,
 ) -> Result<(), AllocError>
-    requires year { date.year < 10_000 }
-    requires month { date.month < 100 }
-    requires day { date.day < 100 }
+    requires date { HasDigits date }
     requires seconds { seconds < 86_400 }
     requires nanos { nanos < nanos_per_second }
     ensures { OnOk result (string_bytes text.new ≡ string_bytes text.old
-        ++ date_time_text (record { year = date.year; month = date.month; day = date.day }) seconds nanos) }
+        ++ date_time_text (civil_of date) seconds nanos) }
 {
     push_day(text, date)?;
     text.push_str("T")?;
@@ -165,7 +163,7 @@ fn push_http_date(
     requires seconds { seconds < 86_400 }
     requires weekday { weekday < 7 }
     ensures { OnOk result (string_bytes text.new ≡ string_bytes text.old
-        ++ http_date_text weekday (record { year = date.year; month = date.month; day = date.day }) seconds) }
+        ++ http_date_text weekday (civil_of date) seconds) }
 {
     text.push_str(weekday_name(weekday))?;
     text.push_str(", ")?;
@@ -212,9 +210,7 @@ fn grown(text: String, pushed: Result<(), AllocError>) -> Result<String, DateTim
 }
 
 fn date_time_text(alloc: Global, instant: DateTime) -> Result<String, DateTimeFormatError>
-    ensures ok { IfOk result (λ t. written_date_time instant ≡ Some (string_bytes t)) }
-    ensures err { IfErr result (λ e. e ≡ OutOfRange → written_date_time instant ≡ None) }
-    ensures memory { IfErr result (λ e. e ≡ NoMemory → is_some (written_date_time instant) ≡ true) }
+    ensures writes { WritesText (written_date_time instant) result }
     ensures instant { is_instant instant ≡ true }
 {
     let Some(date) = civil_date(instant.day()) else {
@@ -231,9 +227,7 @@ fn date_time_text(alloc: Global, instant: DateTime) -> Result<String, DateTimeFo
 }
 
 fn http_date_text(alloc: Global, instant: DateTime) -> Result<String, DateTimeFormatError>
-    ensures ok { IfOk result (λ t. written_http_date instant ≡ Some (string_bytes t)) }
-    ensures err { IfErr result (λ e. e ≡ OutOfRange → written_http_date instant ≡ None) }
-    ensures memory { IfErr result (λ e. e ≡ NoMemory → is_some (written_http_date instant) ≡ true) }
+    ensures writes { WritesText (written_http_date instant) result }
     ensures instant { is_instant instant ≡ true }
 {
     let day = instant.day();
@@ -283,10 +277,7 @@ fn is_whole_second(instant: DateTime) -> bool
 impl DateTime {
     /// The written text of the instant, with what the form has no room for cut off.
     pub fn fmt(&self, alloc: Global, format: Format) -> Result<String, DateTimeFormatError>
-        ensures ok { IfOk result (λ t. date_text format self.now ≡ Some (string_bytes t)) }
-        ensures err { IfErr result (λ e. e ≡ OutOfRange → date_text format self.now ≡ None) }
-        // An instant that leaves the range takes no memory.
-        ensures memory { IfErr result (λ e. e ≡ NoMemory → is_some (date_text format self.now) ≡ true) }
+        ensures writes { WritesText (date_text format self.now) result }
         ensures reads_back { IfOk result (λ t. holds format self.now ≡ true
             → date_of format (string_bytes t) ≡ Some self.now) }
     {

@@ -19,8 +19,7 @@ abbrev mutual
   document_text_by written (number n) = written n
   document_text_by written (text s) = quoted s
   document_text_by written (array ds) = begin_array ∷ (elements_text_by written [] ds ++ end_array ∷ [])
-  document_text_by written (object ps) =
-      begin_object ∷ (properties_text_by written [] ps ++ end_object ∷ [])
+  document_text_by written (object ps) = begin_object ∷ (properties_text_by written [] ps ++ end_object ∷ [])
 
   -- each element behind what parts it from the one before: nothing at first, and then a comma
   pub elements_text_by : {N : Type 0} → (N → List ℕ) → List ℕ → Documents N → List ℕ

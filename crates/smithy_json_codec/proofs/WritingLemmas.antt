@@ -11,7 +11,9 @@ use Rattle.smithy_declarations.specs.Value.{ScalarValue, text, text_in, Value, s
 use Rattle.smithy_schema.specs.Writing.{Event, run, write, and_run, events, element_events, entry_events, member_events, scalar_of, end_list, end_map, end_structure, after_value, after_text, after_begin, Open, open_structure, open_list, open_map_at_key, open_map_at_value}
 use Rattle.smithy_schema.proofs.WritingLemmas.{child_written}
 use Rattle.smithy_json_grammar.specs.Ascii.{value_separator, begin_array, end_array, begin_object, end_object}
-use Rattle.smithy_json_codec.specs.Canonical.{scalar_text, document_text, can_write, name_text, key_text, canonical_json, more_elements, more_entries, more_members}
+use Rattle.smithy_json_codec.specs.Canonical.{scalar_text, document_text, can_write, key_text, canonical_json, element_texts, entry_texts, member_texts}
+use Rattle.smithy_json.specs.DocumentText.{comma as separator}
+use Rattle.smithy_json.specs.ValueTexts.{name_text}
 use Rattle.smithy_json_values.specs.Settings.{Settings}
 use Rattle.smithy_json_codec.specs.Writing.{JsonState, lead, form_at, is_key_due, key_wrote, wrote, opened, where_taken, json_after}
 
@@ -123,7 +125,7 @@ mutual
       (value_adds child v c front false (open_list ∷ after) (open_list ∷ after) parts.0 refl)
       (elements_add child vs c (front ++ canonical_json c child v) after parts.1))
       refl))
-      (group_list o before (canonical_json c child v) (more_elements c child vs) begin_array end_array)
+      (group_list o before (canonical_json c child v) (element_texts c child separator vs) begin_array end_array)
   value_adds site (map no_map_entries) c o comma frames after can due =
       let before = lead (state c o comma frames) site.view in
       regroup c _ _ after _
@@ -142,7 +144,7 @@ mutual
       (value_adds child v c (front ++ name_text key) false (open_map_at_value ∷ after) (open_map_at_key ∷ after) parts.0 refl)
       (entries_add (key_of site) child es c ((front ++ name_text key) ++ canonical_json c child v) after parts.1)))
       refl))
-      (group_entry o before (name_text key) (canonical_json c child v) (more_entries c child es) begin_object end_object)
+      (group_entry o before (name_text key) (canonical_json c child v) (entry_texts c child separator es) begin_object end_object)
   value_adds site (structure no_member_values) c o comma frames after can due =
       let before = lead (state c o comma frames) site.view in
       regroup c _ _ after _
@@ -161,7 +163,7 @@ mutual
       (value_adds child v c front false (open_structure ∷ after) (open_structure ∷ after) parts.0 refl)
       (members_add site ms c (front ++ (key ++ canonical_json c child v)) after parts.1))
       refl))
-      (group_structure o before key (canonical_json c child v) (more_members c site ms) begin_object end_object)
+      (group_structure o before key (canonical_json c child v) (member_texts c site separator ms) begin_object end_object)
   value_adds site (union n v) c o comma frames after can due =
       let before = lead (state c o comma frames) site.view in
       let child = member_of site n in
@@ -176,7 +178,7 @@ mutual
   -- further elements add their texts, each behind a comma
   pub elements_add : (site : Site) (vs : Values) (c : Settings) (o : List ℕ) (frames : List Open) → elements_pass (can_write c) site vs ≡ true
       → run json_after (element_events site vs) (state c o true (open_list ∷ frames))
-      ≡ Ok (state c (o ++ more_elements c site vs) true (open_list ∷ frames))
+      ≡ Ok (state c (o ++ element_texts c site separator vs) true (open_list ∷ frames))
   elements_add site no_values c o frames can = regroup c _ _ (open_list ∷ frames) _ refl (sym (append-nil o))
   elements_add site (value v vs) c o frames can =
       let parts = and_parts (scalars_pass (can_write c) site v) (elements_pass (can_write c) site vs) can in
@@ -184,12 +186,12 @@ mutual
       (step (events site v) (element_events site vs) _ _ _
       (value_adds site v c o true (open_list ∷ frames) (open_list ∷ frames) parts.0 refl)
       (elements_add site vs c (o ++ value_separator ∷ canonical_json c site v) frames parts.1))
-      (group_element o (canonical_json c site v) (more_elements c site vs) value_separator)
+      (group_element o (canonical_json c site v) (element_texts c site separator vs) value_separator)
 
   -- further entries add their keys and texts, each behind a comma
   pub entries_add : (key_site site : Site) (es : MapEntries) (c : Settings) (o : List ℕ) (frames : List Open) → entries_pass (can_write c) site es ≡ true
       → run json_after (entry_events key_site site es) (state c o true (open_map_at_key ∷ frames))
-      ≡ Ok (state c (o ++ more_entries c site es) true (open_map_at_key ∷ frames))
+      ≡ Ok (state c (o ++ entry_texts c site separator es) true (open_map_at_key ∷ frames))
   entries_add key_site site no_map_entries c o frames can = regroup c _ _ (open_map_at_key ∷ frames) _ refl (sym (append-nil o))
   entries_add key_site site (map_entry key v es) c o frames can =
       let parts = and_parts (scalars_pass (can_write c) site v) (entries_pass (can_write c) site es) can in
@@ -198,12 +200,12 @@ mutual
       (step (events site v) (entry_events key_site site es) _ _ _
       (value_adds site v c (o ++ value_separator ∷ name_text key) false (open_map_at_value ∷ frames) (open_map_at_key ∷ frames) parts.0 refl)
       (entries_add key_site site es c ((o ++ value_separator ∷ name_text key) ++ canonical_json c site v) frames parts.1)))
-      (group_more o (name_text key) (canonical_json c site v) (more_entries c site es) value_separator)
+      (group_more o (name_text key) (canonical_json c site v) (entry_texts c site separator es) value_separator)
 
   -- further members add their names and texts, each behind a comma
   pub members_add : (site : Site) (ms : MemberValues) (c : Settings) (o : List ℕ) (frames : List Open) → members_pass (can_write c) site ms ≡ true
       → run json_after (member_events site ms) (state c o true (open_structure ∷ frames))
-      ≡ Ok (state c (o ++ more_members c site ms) true (open_structure ∷ frames))
+      ≡ Ok (state c (o ++ member_texts c site separator ms) true (open_structure ∷ frames))
   members_add site no_member_values c o frames can =
       regroup c _ _ (open_structure ∷ frames) _ refl (sym (append-nil o))
   members_add site (member_value n v ms) c o frames can =
@@ -214,4 +216,4 @@ mutual
       (step (events child v) (member_events site ms) _ _ _
       (value_adds child v c o true (open_structure ∷ frames) (open_structure ∷ frames) parts.0 refl)
       (members_add site ms c (o ++ value_separator ∷ (key ++ canonical_json c child v)) frames parts.1))
-      (group_member o key (canonical_json c child v) (more_members c site ms) value_separator)
+      (group_member o key (canonical_json c child v) (member_texts c site separator ms) value_separator)

@@ -6,7 +6,9 @@ use Rattle.smithy_shapes.specs.Site.{Site, View, member_of}
 use Rattle.smithy_declarations.specs.Value.{Value, Values, no_values, value, MapEntries, no_map_entries, map_entry, MemberValues, no_member_values, member_value}
 use Rattle.smithy_shapes.specs.Fits.{Fits}
 use Rattle.smithy_shapes.proofs.SiteLemmas.{site_at}
-use Rattle.smithy_json_codec.specs.Canonical.{name_text, key_text, written_form, canonical_json, first_element, more_elements, first_entry, more_entries, first_member, more_members}
+use Rattle.smithy_json_codec.specs.Canonical.{key_text, written_form, canonical_json, element_texts, entry_texts, member_texts}
+use Rattle.smithy_json.specs.DocumentText.{comma}
+use Rattle.smithy_json.specs.ValueTexts.{name_text}
 use Rattle.smithy_json_values.specs.Settings.{Settings, name_of}
 use Rattle.smithy_wire.specs.Writes.{body_of}
 use Rattle.smithy_wire.proofs.CanonicalBody.{Canonical, IsWritten, same_body}
@@ -16,16 +18,13 @@ use Rattle.smithy_json_codec.proofs.WrittenPlaces.{separator, json_writes}
 
 module _ (c : Settings) where
   abbrev elements : Bool → Site → Values → List ℕ
-  elements true = first_element c
-  elements false = more_elements c
+  elements is_first site vs = element_texts c site (separator is_first) vs
 
   abbrev entries : Bool → Site → MapEntries → List ℕ
-  entries true = first_entry c
-  entries false = more_entries c
+  entries is_first site es = entry_texts c site (separator is_first) es
 
   abbrev members : Bool → Site → MemberValues → List ℕ
-  members true = first_member c
-  members false = more_members c
+  members is_first site ms = member_texts c site (separator is_first) ms
 
   abbrev canonical : Canonical
   canonical = record {
@@ -41,7 +40,7 @@ module _ (c : Settings) where
   no_element_is false site = refl
 
   element_is : (is_first : Bool) (site : Site) (v : Value) (vs : Values)
-      → elements is_first site (value v vs) ≡ (separator is_first ++ []) ++ (canonical_json c site v ++ more_elements c site vs)
+      → elements is_first site (value v vs) ≡ (separator is_first ++ []) ++ (canonical_json c site v ++ element_texts c site comma vs)
   element_is true site v vs = refl
   element_is false site v vs = refl
 
@@ -50,7 +49,7 @@ module _ (c : Settings) where
   no_map_entry_is false site = refl
 
   map_entry_is : (is_first : Bool) (site : Site) (key : List ℕ) (v : Value) (es : MapEntries)
-      → entries is_first site (map_entry key v es) ≡ (separator is_first ++ name_text key) ++ (canonical_json c site v ++ more_entries c site es)
+      → entries is_first site (map_entry key v es) ≡ (separator is_first ++ name_text key) ++ (canonical_json c site v ++ entry_texts c site comma es)
   map_entry_is true site key v es = refl
   map_entry_is false site key v es = refl
 
@@ -60,7 +59,7 @@ module _ (c : Settings) where
 
   member_is : (is_first : Bool) (site : Site) (n : ℕ) (v : Value) (ms : MemberValues)
       → members is_first site (member_value n v ms)
-      ≡ (separator is_first ++ key_text c.use_json_name (member_of site n).view) ++ (canonical_json c (member_of site n) v ++ more_members c site ms)
+      ≡ (separator is_first ++ key_text c.use_json_name (member_of site n).view) ++ (canonical_json c (member_of site n) v ++ member_texts c site comma ms)
   member_is true site n v ms = refl
   member_is false site n v ms = refl
 

@@ -19,7 +19,8 @@ use Rattle.smithy_json.specs.Escape.{escaped}
 use Rattle.smithy_json_grammar.specs.HeldNumber.{held_as, number_of}
 use Rattle.smithy_json.proofs.DecimalLemmas.{decimal_is_number, decimal_writes}
 use Rattle.smithy_json.proofs.QuotedLemmas.{quoted_is_string, unescaped_of_escaped}
-use Rattle.smithy_json_codec.specs.Canonical.{document_text, name_text}
+use Rattle.smithy_json_codec.specs.Canonical.{document_text}
+use Rattle.smithy_json.specs.ValueTexts.{name_text}
 use Rattle.smithy_json_values.specs.LexicalGrammar.{rfc_8259, in_grammar}
 use Rattle.smithy_json_values.specs.Scalar.{JsonScalar, a_number, a_string, held_says, document_says}
 use Rattle.smithy_json_values.specs.Settings.{Settings}

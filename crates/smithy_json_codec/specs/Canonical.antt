@@ -1,6 +1,7 @@
 -- The one spelling in which a value is written.
-use Rattle.std.specs.Prelude.{ℕ, ℤ, List, [], ◌∷◌, ◌++◌, Bool, true, false, Option, Some, None, unwrap_or, codes, if◌then◌else◌}
+use Rattle.std.specs.Prelude.{ℕ, ℤ, List, [], ◌∷◌, ◌++◌, Bool, true, false, Option, unwrap_or, codes, if◌then◌else◌}
 use Rattle.std.specs.Fmt.{signed_decimal}
+use Rattle.std.specs.Option.{option_map_or}
 use Rattle.smithy_types.specs.Document.{Document}
 use Rattle.smithy_declarations.specs.declared.shape_type.TimestampFormat.{TimestampFormat}
 use Rattle.smithy_declarations.specs.declared.shape_type.TimestampFormat.TheVariants.{EpochSeconds, DateTime, HttpDate}
@@ -13,9 +14,10 @@ use Rattle.smithy_texts.specs.Decimal.{decimal_text}
 use Rattle.smithy_instants.specs.WrittenDate.{date_text}
 use Rattle.smithy_instants.specs.declared.format.Format.{Format}
 use Rattle.smithy_instants.specs.declared.format.Format.TheVariants as formats
-use Rattle.smithy_json_grammar.specs.Ascii.{quotation_mark, value_separator, name_separator, begin_array, end_array, begin_object, end_object}
-use Rattle.smithy_json.specs.DocumentText.{document_text_by}
+use Rattle.smithy_json_grammar.specs.Ascii.{quotation_mark, begin_array, end_array, begin_object, end_object}
+use Rattle.smithy_json.specs.DocumentText.{comma, document_text_by}
 use Rattle.smithy_json.specs.Escape.{quoted}
+use Rattle.smithy_json.specs.ValueTexts.{name_text}
 use Rattle.smithy_json_values.specs.Settings.{Settings}
 
 -- the time form whose texts are written in a form: a date and time is written alike where an offset may be read
@@ -58,73 +60,41 @@ can_write c = record {
 -- which values are written so that the text stands for exactly the value: a scalar by the time form of its place, and every
 -- document
 abbrev pub json_holds : Settings → ValueTest
-json_holds c = record {
-  scalar = λ time x. form_holds (written_form c time) x;
-  documents = true;
-}
-
--- the name of a member or the key of a map's entry, and a colon
-abbrev pub name_text : List ℕ → List ℕ
-name_text name = quoted name ++ name_separator ∷ []
+json_holds c = record { scalar = λ time x. form_holds (written_form c time) x; documents = true }
 
 -- what stands before the value of a member: its JSON name, where that is used and given, else its name
 abbrev pub key_text : Bool → View → List ℕ
-key_text use_json_name view = elim view.name [
-  | None ↦ []
-  | Some name ↦ name_text (if use_json_name then unwrap_or view.json_name name else name)
-]
+key_text use_json_name view =
+    option_map_or (λ name. name_text (if use_json_name then unwrap_or view.json_name name else name)) view.name []
 
 -- Under some settings: members in the table's order, elements in theirs, and the entries of a map and the properties of a
 -- document in that of their names' bytes, with no white space. A union is an object of its one member.
 abbrev mutual
   pub canonical_json : Settings → Site → Value → List ℕ
-  canonical_json c site (scalar_value x) =
-      scalar_text (written_form c site.place.time) x
-  canonical_json c site (list vs) =
-      begin_array ∷ (first_element c (element_of site) vs ++ end_array ∷ [])
-  canonical_json c site (map es) =
-      begin_object ∷ (first_entry c (value_of site) es ++ end_object ∷ [])
-  canonical_json c site (structure ms) =
-      begin_object ∷ (first_member c site ms ++ end_object ∷ [])
+  canonical_json c site (scalar_value x) = scalar_text (written_form c site.place.time) x
+  canonical_json c site (list vs) = begin_array ∷ (element_texts c (element_of site) [] vs ++ end_array ∷ [])
+  canonical_json c site (map es) = begin_object ∷ (entry_texts c (value_of site) [] es ++ end_object ∷ [])
+  canonical_json c site (structure ms) = begin_object ∷ (member_texts c site [] ms ++ end_object ∷ [])
   canonical_json c site (union n v) =
       begin_object
-      ∷ (key_text c.use_json_name (member_of site n).view
-      ++ (canonical_json c (member_of site n) v ++ end_object ∷ []))
+      ∷ (key_text c.use_json_name (member_of site n).view ++ (canonical_json c (member_of site n) v ++ end_object ∷ []))
   canonical_json c site null_element = codes "null"
-  canonical_json c site (document_value d) = document_text d
+  canonical_json c site (document_value d) = document_text_by signed_decimal d
 
-  pub first_element : Settings → Site → Values → List ℕ
-  first_element c site no_values = []
-  first_element c site (value v vs) =
-      canonical_json c site v ++ more_elements c site vs
+  -- each element behind what parts it from the one before: nothing at first, and then a comma
+  pub element_texts : Settings → Site → List ℕ → Values → List ℕ
+  element_texts c site parting no_values = []
+  element_texts c site parting (value v vs) = parting ++ (canonical_json c site v ++ element_texts c site comma vs)
 
-  -- each after a comma
-  pub more_elements : Settings → Site → Values → List ℕ
-  more_elements c site no_values = []
-  more_elements c site (value v vs) =
-      value_separator ∷ (canonical_json c site v ++ more_elements c site vs)
+  -- each value of a map with its key in front, behind what parts it from the one before
+  pub entry_texts : Settings → Site → List ℕ → MapEntries → List ℕ
+  entry_texts c site parting no_map_entries = []
+  entry_texts c site parting (map_entry key v es) =
+      parting ++ (name_text key ++ (canonical_json c site v ++ entry_texts c site comma es))
 
-  pub first_entry : Settings → Site → MapEntries → List ℕ
-  first_entry c site no_map_entries = []
-  first_entry c site (map_entry key v es) =
-      name_text key ++ (canonical_json c site v ++ more_entries c site es)
-
-  -- each after a comma
-  pub more_entries : Settings → Site → MapEntries → List ℕ
-  more_entries c site no_map_entries = []
-  more_entries c site (map_entry key v es) =
-      value_separator
-      ∷ (name_text key ++ (canonical_json c site v ++ more_entries c site es))
-
-  pub first_member : Settings → Site → MemberValues → List ℕ
-  first_member c site no_member_values = []
-  first_member c site (member_value n v ms) =
-      key_text c.use_json_name (member_of site n).view
-      ++ (canonical_json c (member_of site n) v ++ more_members c site ms)
-
-  pub more_members : Settings → Site → MemberValues → List ℕ
-  more_members c site no_member_values = []
-  more_members c site (member_value n v ms) =
-      value_separator
-      ∷ (key_text c.use_json_name (member_of site n).view
-      ++ (canonical_json c (member_of site n) v ++ more_members c site ms))
+  -- each value of a member with its name in front, behind what parts it from the one before
+  pub member_texts : Settings → Site → List ℕ → MemberValues → List ℕ
+  member_texts c site parting no_member_values = []
+  member_texts c site parting (member_value n v ms) =
+      parting
+      ++ (key_text c.use_json_name (member_of site n).view ++ (canonical_json c (member_of site n) v ++ member_texts c site comma ms))

@@ -10,7 +10,8 @@ use Rattle.smithy_types.specs.declared.number.Number.{Number}
 use Rattle.smithy_json_grammar.specs.Ascii.{begin_object, end_object}
 use Rattle.smithy_json.specs.DocumentText.{comma, properties_text_by}
 use Rattle.smithy_json.specs.Escape.{quoted}
-use Rattle.smithy_json_codec.specs.Canonical.{document_text, name_text}
+use Rattle.smithy_json_codec.specs.Canonical.{document_text}
+use Rattle.smithy_json.specs.ValueTexts.{name_text}
 
 -- the properties, each behind a comma
 abbrev pub more_properties : Properties Number → List ℕ

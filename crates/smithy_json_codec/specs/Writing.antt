@@ -8,7 +8,8 @@ use Rattle.smithy_shapes.specs.Site.{Site, View}
 use Rattle.smithy_declarations.specs.Value.{ScalarValue, text_in}
 use Rattle.smithy_schema.specs.Writing.{Event, Writer, begin_structure, end_structure, begin_list, end_list, begin_map, end_map, null_of, scalar_of, big_integer_of, big_decimal_of, document_of, Open, open_structure, open_map_at_key, open_after, after_value}
 use Rattle.smithy_json_grammar.specs.Ascii.{value_separator, begin_array, end_array, begin_object, end_object}
-use Rattle.smithy_json_codec.specs.Canonical.{name_text, key_text, written_form, scalar_text, document_text, can_write}
+use Rattle.smithy_json_codec.specs.Canonical.{key_text, written_form, scalar_text, document_text, can_write}
+use Rattle.smithy_json.specs.ValueTexts.{name_text}
 use Rattle.smithy_json_values.specs.Settings.{Settings}
 use Rattle.smithy_json_codec.specs.WrittenNumber.{written_number}
 

@@ -8,7 +8,8 @@ ghost use Rattle.smithy_types.specs.DocumentView.{document_view, properties_view
 ghost use Rattle.smithy_types.specs.Identifier.{type_name};
 ghost use Rattle.smithy_json.specs.DocumentText.{comma};
 ghost use Rattle.smithy_json.specs.Escape.{quoted};
-ghost use Rattle.smithy_json_codec.specs.Canonical.{document_text, name_text};
+ghost use Rattle.smithy_json_codec.specs.Canonical.{document_text};
+ghost use Rattle.smithy_json.specs.ValueTexts.{name_text};
 ghost use Rattle.smithy_json_codec.specs.NamedDocument.{more_properties, named_text, discriminated_text};
 ghost use Rattle.smithy_json_codec.specs.Serializing.{state_of, has_failed};
 ghost use Rattle.smithy_json_codec.specs.Writing.{wrote, wrote_any, where_taken};

@@ -7,7 +7,8 @@ ghost use Rattle.smithy_types.specs.Document.{whole_document};
 ghost use Rattle.smithy_types.specs.DocumentView.{document_view};
 ghost use Rattle.smithy_json_grammar.specs.Ascii.{quotation_mark};
 ghost use Rattle.smithy_json.specs.Escape.{quoted};
-ghost use Rattle.smithy_json_codec.specs.Canonical.{document_text, name_text, key_text, time_form};
+ghost use Rattle.smithy_json_codec.specs.Canonical.{document_text, key_text, time_form};
+ghost use Rattle.smithy_json.specs.ValueTexts.{name_text};
 ghost use Rattle.smithy_json_codec.specs.Writing.{comma_text};
 
 use smithy_json::{push_document, push_escaped};

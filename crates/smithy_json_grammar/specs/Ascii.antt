@@ -1,5 +1,6 @@
 -- The bytes that RFC 8259 names, under its names (sections 2, 6 and 7).
 use Rattle.std.specs.Prelude.{ℕ, Bool, ◌||◌, ◌&&◌, ◌==◌, nat_le}
+use Rattle.std.specs.Str.{byte}
 
 -- "
 abbrev pub quotation_mark : ℕ
@@ -8,10 +9,6 @@ quotation_mark = 0x22
 -- \
 abbrev pub escape : ℕ
 escape = 0x5c
-
--- /
-abbrev pub solidus : ℕ
-solidus = 0x2f
 
 -- ,
 abbrev pub value_separator : ℕ
@@ -53,10 +50,6 @@ digit_zero = 0x30
 abbrev pub decimal_point : ℕ
 decimal_point = 0x2e
 
--- b
-abbrev pub letter_b : ℕ
-letter_b = 0x62
-
 -- f
 abbrev pub letter_f : ℕ
 letter_f = 0x66
@@ -64,10 +57,6 @@ letter_f = 0x66
 -- n
 abbrev pub letter_n : ℕ
 letter_n = 0x6e
-
--- r
-abbrev pub letter_r : ℕ
-letter_r = 0x72
 
 -- t
 abbrev pub letter_t : ℕ
@@ -117,5 +106,5 @@ is_numeric b =
 -- what makes an escape of two bytes with the byte before it: " \ / b f n r t
 abbrev pub is_short_escape : ℕ → Bool
 is_short_escape b =
-    (b == quotation_mark) || (b == escape) || (b == solidus) || (b == letter_b) || (b == letter_f)
-    || (b == letter_n) || (b == letter_r) || (b == letter_t)
+    (b == quotation_mark) || (b == escape) || (b == byte "/") || (b == byte "b") || (b == byte "f") || (b == byte "n")
+    || (b == byte "r") || (b == byte "t")

@@ -18,8 +18,7 @@ IsPadded P bytes =
 
 -- an opening byte, what P says, and a closing byte
 abbrev pub IsBracketed : ℕ → ℕ → (List ℕ → Type 0) → List ℕ → Type 0
-IsBracketed opening closing P bytes =
-    (inside : List ℕ) × (bytes ≡ opening ∷ (inside ++ closing ∷ [])) × P inside
+IsBracketed opening closing P bytes = (inside : List ℕ) × (bytes ≡ opening ∷ (inside ++ closing ∷ [])) × P inside
 
 -- what P says, and then what Q says
 abbrev pub IsThen : (List ℕ → Type 0) → (List ℕ → Type 0) → List ℕ → Type 0
@@ -80,8 +79,7 @@ BeginsWithFourHexDigits _ = ⊥
 
 -- what may follow the byte `escape`: one of eight letters, or `u` where four digits come then
 abbrev pub IsEscape : ℕ → List ℕ → Type 0
-IsEscape letter rest =
-    IsTrue (is_short_escape letter) ⊎ ((letter ≡ letter_u) × BeginsWithFourHexDigits rest)
+IsEscape letter rest = IsTrue (is_short_escape letter) ⊎ ((letter ≡ letter_u) × BeginsWithFourHexDigits rest)
 
 -- *char, where char = unescaped / escape .. . The digits after `\u` are asked for where it stands, and
 -- then are bytes that stand for themselves. A surrogate may stand alone.
@@ -127,8 +125,7 @@ abbrev mutual
   -- *( value-separator value )
   pub AreMoreElements : Elements → List ℕ → Type 0
   AreMoreElements no_elements bytes = bytes ≡ []
-  AreMoreElements (element j es) bytes =
-      IsAfterSeparator (IsThen (IsPadded (IsValue j)) (AreMoreElements es)) bytes
+  AreMoreElements (element j es) bytes = IsAfterSeparator (IsThen (IsPadded (IsValue j)) (AreMoreElements es)) bytes
 
   -- *( value-separator member )
   pub AreMoreMembers : Members → List ℕ → Type 0

@@ -11,8 +11,7 @@ use Rattle.smithy_json_grammar.specs.Ascii.{minus_sign, plus_sign}
 -- the number of at least one decimal digit
 abbrev pub natural_number : List ℕ → Option ℕ
 natural_number [] = None
-natural_number (d ∷ digits) =
-    if all_ascii_digits (d ∷ digits) then Some (digits_value 10 (d ∷ digits)) else None
+natural_number (d ∷ digits) = if all_ascii_digits (d ∷ digits) then Some (digits_value 10 (d ∷ digits)) else None
 
 -- the number of an optional minus and decimal digits, and none of a text with another byte
 abbrev pub whole_number : List ℕ → Option ℤ
@@ -24,8 +23,7 @@ whole_number (b ∷ text) =
 -- the number of an optional sign and decimal digits, and none of a text with another byte
 abbrev pub signed_number : List ℕ → Option ℤ
 signed_number [] = None
-signed_number (b ∷ text) =
-    if b == plus_sign then option_map pos (natural_number text) else whole_number (b ∷ text)
+signed_number (b ∷ text) = if b == plus_sign then option_map pos (natural_number text) else whole_number (b ∷ text)
 
 -- a number of 64 bits
 abbrev pub long_number : ℤ → Option ℤ

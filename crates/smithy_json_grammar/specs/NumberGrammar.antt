@@ -6,11 +6,8 @@ use Rattle.smithy_json_grammar.specs.declared.number_grammar.NumberGrammar.{Numb
 
 -- that of the standard
 abbrev pub standard_numbers : NumberGrammar
-standard_numbers = record {
-  allow_leading_zeros = false;
-  allow_trailing_decimal_point = false;
-  allow_empty_integer_part = false;
-}
+standard_numbers =
+    record { allow_leading_zeros = false; allow_trailing_decimal_point = false; allow_empty_integer_part = false }
 
 -- int; or digits, of which some zeros may come first; or nothing between a minus and a fraction with digits
 abbrev pub IsIntOf : NumberGrammar → List ℕ → List ℕ → List ℕ → Type 0

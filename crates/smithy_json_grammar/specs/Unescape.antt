@@ -2,22 +2,22 @@
 use Rattle.std.specs.Prelude.{ℕ, List, [], ◌∷◌, ◌++◌, map, Bool, true, false, ◌&&◌, ◌==◌, Option, Result, Ok, Err, encode_utf8, if◌then◌else◌}
 use Rattle.std.specs.List.{list_all, list_any}
 use Rattle.std.specs.Result.{result_ok}
-use Rattle.std.specs.Str.{is_utf8}
+use Rattle.std.specs.Str.{is_utf8, byte}
 use Rattle.std.specs.Char.{is_ascii_hexdigit, digit_value}
 use Rattle.std.specs.Char.Utf16.{is_high_surrogate, is_low_surrogate, surrogate_pair_char}
 use Rattle.std.specs.Int.Digits.{number_from_digits}
-use Rattle.smithy_json_grammar.specs.Ascii.{escape, letter_b, letter_f, letter_n, letter_r, letter_t, letter_u, backspace, tab, line_feed, form_feed, carriage_return, is_short_escape}
+use Rattle.smithy_json_grammar.specs.Ascii.{escape, letter_u, backspace, tab, line_feed, form_feed, carriage_return, is_short_escape}
 use Rattle.smithy_json_grammar.specs.declared.escape_error.EscapeError.{EscapeError}
 use Rattle.smithy_json_grammar.specs.declared.escape_error.EscapeError.TheVariants.{UnexpectedEndOfString, InvalidEscapeCharacter, InvalidUtf8, InvalidUnicodeEscape, ExpectedSurrogatePair, InvalidSurrogatePair}
 
 -- the character that a letter stands for after the byte `escape`: `"`, `\` and `/` for themselves
 abbrev pub short_escape : ℕ → ℕ
 short_escape letter =
-    if letter == letter_b then backspace
-    else if letter == letter_f then form_feed
-    else if letter == letter_n then line_feed
-    else if letter == letter_r then carriage_return
-    else if letter == letter_t then tab
+    if letter == byte "b" then backspace
+    else if letter == byte "f" then form_feed
+    else if letter == byte "n" then line_feed
+    else if letter == byte "r" then carriage_return
+    else if letter == byte "t" then tab
     else letter
 
 -- why four bytes aren't hexadecimal digits
@@ -39,10 +39,7 @@ abbrev mutual
   -- the text of a raw text, or its first fault from the left
   pub unescape : List ℕ → Result (List ℕ) EscapeError
   unescape [] = Ok []
-  unescape (b ∷ rest) = elim (b == escape) [
-    | true ↦ unescape_letter rest
-    | false ↦ with_front (b ∷ []) (unescape rest)
-  ]
+  unescape (b ∷ rest) = elim (b == escape) [ true ↦ unescape_letter rest | false ↦ with_front (b ∷ []) (unescape rest) ]
 
   -- the text of a raw text from the byte behind an `escape` on, or its first fault from the left
   pub unescape_letter : List ℕ → Result (List ℕ) EscapeError

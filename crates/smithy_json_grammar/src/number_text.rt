@@ -5,7 +5,7 @@ ghost use Rattle.smithy_json_grammar.specs.Ascii.{is_e};
 ghost use Rattle.smithy_json_grammar.specs.Grammar.{IsNumber};
 ghost use Rattle.smithy_json_grammar.specs.Number.{whole_number};
 ghost use Rattle.smithy_json_grammar.specs.NumberText.{is_number};
-ghost use Rattle.smithy_json_grammar.specs.Private.Numeral.{first_byte, digit_count, after_digits, after_minus, after_sign, after_int, after_frac, after_exp, after_whole, after_frac_and_exp, EndsAt, ReadsNatural, is_int_between, long_of};
+ghost use Rattle.smithy_json_grammar.specs.Private.Numeral.{first_byte, digit_count, after_digits, after_minus, after_sign, after_int, after_frac, after_exp, after_whole, after_frac_and_exp, EndsAt, EndsBefore, ReadsNatural, is_int_between, long_of};
 ghost use Rattle.smithy_json_grammar.specs.Standing.{StandsAt, IsLongAt};
 
 use crate::scan::is_boundary;
@@ -54,9 +54,7 @@ pub fn digits_end(input: &[u8], at: usize) -> Option<usize>
 #[inline(always)]
 pub fn minus_end(input: &[u8], at: usize) -> usize
     requires { at ≤ length input.now }
-    ensures value { drop result input.now ≡ after_minus (drop at input.now) }
-    ensures ordered { at ≤ result }
-    ensures within { result ≤ length input.now }
+    ensures { EndsBefore input.now at result (after_minus (drop at input.now)) }
 {
     if byte_at(input, at) == b'-' {
         at + 1
@@ -68,9 +66,7 @@ pub fn minus_end(input: &[u8], at: usize) -> usize
 #[inline(always)]
 pub fn sign_end(input: &[u8], at: usize) -> usize
     requires { at ≤ length input.now }
-    ensures value { drop result input.now ≡ after_sign (drop at input.now) }
-    ensures ordered { at ≤ result }
-    ensures within { result ≤ length input.now }
+    ensures { EndsBefore input.now at result (after_sign (drop at input.now)) }
 {
     if matches!(byte_at(input, at), b'-' | b'+') {
         at + 1

@@ -1,12 +1,11 @@
 //! Where the text of a string ends (RFC 8259, section 7).
 
-ghost use Rattle.std.specs.Prelude.{◌≡◌, ◌<◌, ◌≤◌, ◌+◌, ℕ, length, drop, slice_index, slice_range, IfSome, IfNone, false};
+ghost use Rattle.std.specs.Prelude.{◌≡◌, ◌<◌, ◌≤◌, ◌+◌, length, drop, slice_index, IfSome, false};
 ghost use Rattle.std.specs.List.{prefix_len};
 ghost use Rattle.std.specs.Char.{is_ascii_hexdigit};
 ghost use Rattle.smithy_json_grammar.specs.Ascii.{quotation_mark, escape, is_short_escape};
 ghost use Rattle.smithy_json_grammar.specs.Private.Chars.{is_plain, begins_with_four_hex_digits, GoesOnAt, closing_from};
-ghost use Rattle.smithy_json_grammar.specs.Standing.{IsStringAt};
-ghost use Rattle.smithy_json_grammar.specs.Unescape.{has_escape};
+ghost use Rattle.smithy_json_grammar.specs.FoundString.{ScansString};
 
 use crate::lanes::run_end;
 use crate::scan::stop;
@@ -86,10 +85,7 @@ fn scan_from<'a>(input: &'a [u8], at: usize, end: usize) -> Option<ScannedString
     requires within { end ≤ length input.now }
     requires opens { slice_index input.now at ≡ quotation_mark }
     requires same_run { at + 1 + prefix_len is_plain (drop (at + 1) input.now) ≡ end + prefix_len is_plain (drop end input.now) }
-    ensures found { IfSome result (λ s. IsStringAt input.now at s.closing) }
-    ensures text { IfSome result (λ s. s.text.now ≡ slice_range input.now (at + 1) s.closing) }
-    ensures has_escape { IfSome result (λ s. s.has_escape ≡ has_escape s.text.now) }
-    ensures none { IfNone result ((closing : ℕ) → IsStringAt input.now at closing → ⊥) }
+    ensures { ScansString input.now at result }
 {
     let first_stop = stop(input, end, true);
     let closing = closing_mark(input, first_stop)?;
@@ -110,10 +106,7 @@ fn scan_from<'a>(input: &'a [u8], at: usize, end: usize) -> Option<ScannedString
 #[inline(always)]
 pub fn scan_string<'a>(input: &'a [u8], at: usize) -> Option<ScannedString<'a>>
     requires { at ≤ length input.now }
-    ensures found { IfSome result (λ s. IsStringAt input.now at s.closing) }
-    ensures text { IfSome result (λ s. s.text.now ≡ slice_range input.now (at + 1) s.closing) }
-    ensures has_escape { IfSome result (λ s. s.has_escape ≡ has_escape s.text.now) }
-    ensures none { IfNone result ((closing : ℕ) → IsStringAt input.now at closing → ⊥) }
+    ensures { ScansString input.now at result }
 {
     if at == input.len() || input[at] != b'"' {
         return None;

@@ -1,5 +1,5 @@
--- What reading and writing JSON depend on beside table and place, and what a codec is asked for. Each setting stands in the record,
--- in its default, where RFC 8259 is read to the letter if it differs there, and in what contracts see of the struct.
+-- What reading and writing JSON depend on beside table and place, and what a codec is asked for. Each setting stands in the record, in
+-- the settings that read RFC 8259 to the letter, in the default ones if it differs there, and in what contracts see of the struct.
 use Rattle.std.specs.Prelude.{ℕ, List, Bool, true, false, Option, None, codes}
 use Rattle.smithy_instants.specs.declared.format.Format.{Format}
 use Rattle.smithy_instants.specs.declared.format.Format.TheVariants.{EpochSeconds}
@@ -33,31 +33,30 @@ pub record Settings : Type 0 where
   pub use_string_for_arbitrary_precision : Bool
   pub normalize_arbitrary_precision : Bool
 
--- those of a client where none is set
-abbrev pub default_settings : Settings
-default_settings = record {
-  use_json_name = true;
+-- those under which RFC 8259 is read to the letter
+abbrev pub strict_settings : Bool → Settings
+strict_settings use_json_name = record {
+  use_json_name = use_json_name;
   max_depth = 128;
   default_timestamp_format = EpochSeconds;
   limits = kept;
-  enforce_strictness = false;
+  enforce_strictness = true;
   allow_integral_float_numbers = false;
   numbers = standard_numbers;
   validate_skipped_values = true;
-  validate_skipped_string_encoding = false;
-  strict_timestamp_formats = false;
+  validate_skipped_string_encoding = true;
+  strict_timestamp_formats = true;
   dispatch_null_members = false;
   use_string_for_arbitrary_precision = false;
   normalize_arbitrary_precision = false;
 }
 
--- those under which RFC 8259 is read to the letter
-abbrev pub strict_settings : Bool → Settings
-strict_settings use_json_name = record default_settings {
-  use_json_name = use_json_name;
-  enforce_strictness = true;
-  validate_skipped_string_encoding = true;
-  strict_timestamp_formats = true;
+-- those of a client where none is set
+abbrev pub default_settings : Settings
+default_settings = record (strict_settings true) {
+  enforce_strictness = false;
+  validate_skipped_string_encoding = false;
+  strict_timestamp_formats = false;
 }
 
 -- what contracts see of the settings that a codec, a reader and a serializer hold: they keep the limits

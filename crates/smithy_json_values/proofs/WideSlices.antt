@@ -79,26 +79,15 @@ wide_slice c s time x i a e lies leaves = by x lies (wide_text c s time x leaves
     by (a_number raw) lies (t, is, leaves) =
         let front = lies.0.2 in
         let same : t ≡ raw = cc in
-        record {
-          before = take a i ++ front.0;
-          slice = raw;
-          behind = drop e i;
-          text = t;
-          parts = number_parts i front.0 raw (drop e i) a (front.2 ∙ ap (λ s. front.0 ++ (s ++ drop e i)) front.4.0);
-          is_text = inl same;
-          leaves = leaves;
-        }
+        (take a i ++ front.0, raw, drop e i, number_parts i front.0 raw (drop e i) a (front.2 ∙ ap (λ s. front.0 ++ (s ++ drop e i)) front.4.0), (t, inl same, leaves))
     by (a_string raw) lies (t, is, leaves) =
-        let front = lies.0.2 in
-        record {
-          before = take a i ++ (front.0 ++ quotation_mark ∷ []);
-          slice = raw;
-          behind = quotation_mark ∷ drop e i;
-          text = t;
-          parts = string_parts i front.0 raw (drop e i) a quotation_mark (front.2 ∙ ap (λ s. front.0 ++ (s ++ drop e i)) front.4.0);
-          is_text = inr is;
-          leaves = leaves;
-        }
+        let front = lies.0.2 in (
+          take a i ++ (front.0 ++ quotation_mark ∷ []),
+          raw,
+          quotation_mark ∷ drop e i,
+          string_parts i front.0 raw (drop e i) a quotation_mark (front.2 ∙ ap (λ s. front.0 ++ (s ++ drop e i)) front.4.0),
+          (t, inr is, leaves),
+        )
 
 -- ---- what isn't carried
 
@@ -147,14 +136,7 @@ uncarried_slice c s time x i a e lies h =
     number_there : (raw : List ℕ) → epoch_nanos raw ≡ None → TreeLies 1 (number raw) i a e → IsUncarriedJson i
     number_there raw none lies =
         let front = lies.0.2 in
-        record {
-          before = take a i ++ front.0;
-          slice = raw;
-          behind = drop e i;
-          parts = number_parts i front.0 raw (drop e i) a (front.2 ∙ ap (λ s. front.0 ++ (s ++ drop e i)) front.4.0);
-          is_number = front.4.1;
-          no_nanos = none;
-        }
+        (take a i ++ front.0, raw, drop e i, number_parts i front.0 raw (drop e i) a (front.2 ∙ ap (λ s. front.0 ++ (s ++ drop e i)) front.4.0), (front.4.1, none))
 
 -- ---- in documents
 
@@ -176,14 +158,7 @@ other_slice x i a e lies h =
     number_there : (raw : List ℕ) → number_of raw ≡ None → TreeLies 1 (number raw) i a e → HasUnheldNumber i
     number_there raw none lies =
         let front = lies.0.2 in
-        record {
-          before = take a i ++ front.0;
-          slice = raw;
-          behind = drop e i;
-          parts = number_parts i front.0 raw (drop e i) a (front.2 ∙ ap (λ s. front.0 ++ (s ++ drop e i)) front.4.0);
-          is_number = front.4.1;
-          not_held = none;
-        }
+        (take a i ++ front.0, raw, drop e i, number_parts i front.0 raw (drop e i) a (front.2 ∙ ap (λ s. front.0 ++ (s ++ drop e i)) front.4.0), (front.4.1, none))
 
 -- ---- by tokens
 

@@ -4,15 +4,12 @@ use Rattle.smithy_json_grammar.specs.Ascii.{quotation_mark, escape, begin_array,
 
 -- where a byte stands: outside a string, inside one, or inside one behind a backslash
 pub data Where : Type 0 where
-  outside : Where
-  inside : Where
-  after_escape : Where
+  outside inside after_escape : Where
 
 -- where the next byte stands, behind the byte b
 abbrev pub where_next : Where → ℕ → Where
 where_next outside b = if b == quotation_mark then inside else outside
-where_next inside b =
-    if b == quotation_mark then outside else (if b == escape then after_escape else inside)
+where_next inside b = if b == quotation_mark then outside else (if b == escape then after_escape else inside)
 where_next after_escape b = inside
 
 -- How far the count of open brackets rises from before the byte b on, where it rises by `rise` from behind b on. Outside of a
@@ -22,8 +19,7 @@ abbrev pub rise_with : Where → ℕ → ℕ → ℕ
 rise_with outside b rise =
     if b == begin_object || b == begin_array then suc rise
     else (if b == end_object || b == end_array then rise - 1 else rise)
-rise_with inside b rise = rise
-rise_with after_escape b rise = rise
+rise_with _ b rise = rise
 
 -- the most by which the count of open brackets rises in these bytes above what it is before them
 abbrev pub greatest_rise : Where → List ℕ → ℕ

@@ -1,5 +1,5 @@
 -- The scalars of JSON, and what they say as each kind under some settings.
-use Rattle.std.specs.Prelude.{ℕ, List, ℤ, Bool, true, false, not, ◌||◌, Option, Some, None, option_map, option_and_then, if◌then◌else◌}
+use Rattle.std.specs.Prelude.{ℕ, List, ℤ, Bool, not, ◌||◌, Option, Some, None, is_none, option_map, option_and_then, if◌then◌else◌}
 use Rattle.std.specs.Option.{option_map_or}
 use Rattle.smithy_declarations.specs.declared.shape_type.Scalar.{Scalar}
 use Rattle.smithy_declarations.specs.declared.shape_type.Scalar.TheVariants as scalars
@@ -47,7 +47,7 @@ boolean_of _ = None
 abbrev pub integer_of : Settings → List ℕ → Option ℤ
 integer_of c raw =
     if c.allow_integral_float_numbers then integral_number raw
-    else (if c.enforce_strictness then whole_number raw else signed_number raw)
+    else if c.enforce_strictness then whole_number raw else signed_number raw
 
 -- an integer that fits so many bits
 abbrev pub whole_of : Settings → ℕ → JsonScalar → Option Value
@@ -78,8 +78,7 @@ big_number _ raw = no_meaning
 
 -- what the text of a number is as a kind of big numbers, where there is such a text
 abbrev pub number_says : Scalar → Option (List ℕ) → Answer Value
-number_says s None = no_meaning
-number_says s (Some raw) = big_number s raw
+number_says s number = option_map_or (big_number s) number no_meaning
 
 -- the instant of so many seconds, in nanoseconds where these are whole: another number of seconds isn't carried
 abbrev pub seconds_read_as : Option ℤ → Answer Value
@@ -90,18 +89,14 @@ seconds_read_as (Some n) = if is_instant n then means (scalar_value (instant n))
 abbrev pub format_at : Settings → Option TimestampFormat → Format
 format_at c time = option_map_or format_of time c.default_timestamp_format
 
--- a number may stand for an instant: everywhere, or where forms are strict as seconds alone
-abbrev pub is_epoch_form : Format → Bool
-is_epoch_form formats.EpochSeconds = true
-is_epoch_form _ = false
-
-abbrev pub takes_seconds : Settings → Option TimestampFormat → Bool
-takes_seconds c time = not c.strict_timestamp_formats || is_epoch_form (format_at c time)
-
 -- the form of strings where forms are strict: seconds are no string
 abbrev pub strict_form : Format → Option Format
 strict_form formats.EpochSeconds = None
 strict_form form = Some form
+
+-- a number may stand for an instant: everywhere, or where forms are strict as seconds alone
+abbrev pub takes_seconds : Settings → Option TimestampFormat → Bool
+takes_seconds c time = not c.strict_timestamp_formats || is_none (strict_form (format_at c time))
 
 -- the form of strings where forms aren't strict, at a place with this time form or none: a date and time may have an offset, and
 -- of the forms that count where there is none, only that of HTTP is another
@@ -142,8 +137,7 @@ says c scalars.BigDecimal time x = number_says scalars.BigDecimal (number_text x
 
 -- what a number is as a document: another one than a document holds isn't carried
 abbrev pub held_says : Option Number → Answer (Document Number)
-held_says None = uncarried
-held_says (Some n) = means (documents.number n)
+held_says number = option_map_or (λ n. means (documents.number n)) number uncarried
 
 -- what a scalar is as a document
 abbrev pub document_says : JsonScalar → Answer (Document Number)

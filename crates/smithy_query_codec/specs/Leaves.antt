@@ -10,7 +10,7 @@ use Rattle.smithy_declarations.specs.declared.shape_type.TimestampFormat.TheVari
 use Rattle.smithy_declarations.specs.TimeForms.{format_of, form_or}
 use Rattle.smithy_declarations.specs.Table.{list_shape_of, map_shape_of, element_name_of, key_name_of, value_name_of}
 use Rattle.smithy_shapes.specs.Site.{Site, View, kind_at, element_of, value_of, member_of}
-use Rattle.smithy_declarations.specs.Value.{ScalarValue, boolean, whole, text, bytes, decimal as decimal_value, instant, Value, scalar_value, list, map, structure, union, null_element, document_value, Values, no_values, value, MapEntries, no_map_entries, map_entry, MemberValues, no_member_values, member_value}
+use Rattle.smithy_declarations.specs.Value.{ScalarValue, boolean, whole, text, bytes, decimal as decimal_value, instant, Value, scalar_value, list, map, structure, union, Values, no_values, value, MapEntries, no_map_entries, map_entry, MemberValues, no_member_values, member_value}
 
 -- segments, outermost first
 abbrev pub Path : Type 0
@@ -36,9 +36,7 @@ numbered i (leaves ∷ parts) = under (decimal i ∷ []) leaves ++ numbered (suc
 
 -- whose value it is: a flat member's, another member's, or neither
 pub data MemberRole : Type 0 where
-  flat_member : MemberRole
-  member : MemberRole
-  neither : MemberRole
+  flat_member member neither : MemberRole
 
 -- the name of a member in a form: the one that is given, else its own
 abbrev pub query_name : View → Option (List ℕ)
@@ -61,16 +59,13 @@ value_name site = option_map_or value_name_of (map_shape_of (kind_at site)) (cod
 -- what stands between a list or a map and the numbers of its parts: nothing where it is a flat member's value
 abbrev pub inner_path : MemberRole → List ℕ → Path
 inner_path flat_member name = []
-inner_path member name = name ∷ []
-inner_path neither name = name ∷ []
+inner_path _ name = name ∷ []
 
 -- a list that is a member's value has a leaf without a text where it would have none
 abbrev pub or_empty : MemberRole → List Leaf → List Leaf
 or_empty neither leaves = leaves
-or_empty member [] = leaf [] ∷ []
-or_empty member (l ∷ leaves) = l ∷ leaves
-or_empty flat_member [] = leaf [] ∷ []
-or_empty flat_member (l ∷ leaves) = l ∷ leaves
+or_empty _ [] = leaf [] ∷ []
+or_empty _ (l ∷ leaves) = l ∷ leaves
 
 -- the text of a scalar, before it is percent-encoded, where instants have this form
 abbrev pub scalar_text : TimestampFormat → ScalarValue → List ℕ
@@ -100,15 +95,13 @@ abbrev mutual
   leaves site stand (list vs) =
       or_empty stand (under (inner_path stand (element_name site)) (numbered 1 (element_leaves (element_of site) vs)))
   leaves site stand (map es) =
-      under (inner_path stand (codes "entry"))
-      (numbered 1 (entry_leaves (key_name site) (value_name site) (value_of site) es))
+      under (inner_path stand (codes "entry")) (numbered 1 (entry_leaves (key_name site) (value_name site) (value_of site) es))
   leaves site stand (structure ms) = member_leaves site ms
   leaves site stand (union n v) =
       under (option_to_list (query_name (member_of site n).view))
       (leaves (member_of site n) (role_of (member_of site n).view) v)
   -- a form has neither nulls nor documents
-  leaves site stand null_element = []
-  leaves site stand (document_value d) = []
+  leaves site stand _ = []
 
   -- the leaves of each element of a list
   pub element_leaves : Site → Values → List (List Leaf)

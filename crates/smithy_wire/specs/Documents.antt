@@ -12,8 +12,7 @@ module _ {L : Type 0} (r : Rules L) (says : L → Answer (Document Number)) wher
     pub document_of : ℕ → Node L → Option (Document Number)
     document_of depth null_node = at_depth r (suc depth) (Some null)
     document_of depth (leaf x) = at_depth r (suc depth) (settled r.limits null (says x))
-    document_of depth (container as_array xs) =
-        at_depth r (suc depth) (option_map array (elements_of (suc depth) xs))
+    document_of depth (container as_array xs) = at_depth r (suc depth) (option_map array (elements_of (suc depth) xs))
     document_of depth (container as_object xs) =
         at_depth r (suc depth) (option_map (λ pairs. object (properties_by pairs)) (pairs_of (suc depth) xs))
     document_of depth missing = None
@@ -41,8 +40,7 @@ lifted_null r _ = where_lifted r.limits null_element
 -- what a node means as a document, by what a scalar is as one, if the wire carries documents
 abbrev pub document_by : {L : Type 0} → Rules L → Option (L → Answer (Document Number)) → ℕ → Node L → Option Value
 document_by r None depth x = lifted_null r x
-document_by r (Some says) depth x =
-    option_map (λ d. document_value (whole_document d)) (document_of r says depth x)
+document_by r (Some says) depth x = option_map (λ d. document_value (whole_document d)) (document_of r says depth x)
 
 -- The value that a node means where a document is due: a document whose numbers count as whole numbers alone. Where the wire
 -- carries no documents it means nothing, and a null where the limits are lifted.

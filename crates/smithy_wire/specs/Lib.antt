@@ -4,6 +4,7 @@ pub mod Rules
 pub mod BigNumbers
 pub mod Documents
 pub mod Meaning
+pub mod Inputs
 -- how a wire frames its nodes, and the relations of reading that follow
 pub mod Frames
 -- what a wire proves of its framing, and the laws of reading that follow

@@ -5,8 +5,7 @@ use Rattle.std.specs.Option.{option_map_or}
 
 -- what a container is on the wire: an array, or an object (of CBOR a map)
 pub data Form : Type 0 where
-  as_array : Form
-  as_object : Form
+  as_array as_object : Form
 
 mutual
   -- what stands where a value is due
@@ -25,10 +24,8 @@ mutual
 abbrev mutual
   -- how many containers stand inside one another
   pub nesting : {L : Type 0} → Node L → ℕ
-  nesting null_node = 0
-  nesting (leaf x) = 0
   nesting (container f xs) = suc (nodes_nesting xs)
-  nesting missing = 0
+  nesting _ = 0
 
   -- the greatest of the children
   pub nodes_nesting : {L : Type 0} → Nodes L → ℕ
@@ -50,6 +47,4 @@ abbrev mutual
 -- the node is a null
 abbrev pub is_null : {L : Type 0} → Node L → Bool
 is_null null_node = true
-is_null (leaf x) = false
-is_null (container f xs) = false
-is_null missing = false
+is_null _ = false

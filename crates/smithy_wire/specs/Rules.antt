@@ -30,8 +30,7 @@ where_lifted lifted null = Some null
 abbrev pub settled : {A : Type 0} → Limits → A → Answer A → Option A
 settled limits null (means v) = Some v
 settled limits null no_meaning = None
-settled limits null wide = where_lifted limits null
-settled limits null uncarried = where_lifted limits null
+settled limits null _ = where_lifted limits null
 
 -- an answer that means something where the option does
 abbrev pub answer_of : {A : Type 0} → Option A → Answer A
@@ -82,8 +81,7 @@ at_depth r depth v = if is_shallow r depth then v else None
 
 -- a node inside so many containers may be skipped: nothing is missing, and it isn't too deep where that counts
 abbrev pub may_skip : {L : Type 0} → Rules L → ℕ → Node L → Bool
-may_skip r depth x =
-    all_pass r.may_skip_scalar x && (if r.skips_count then is_shallow r (depth + nesting x) else true)
+may_skip r depth x = all_pass r.may_skip_scalar x && (if r.skips_count then is_shallow r (depth + nesting x) else true)
 
 -- ---- keys
 
@@ -100,10 +98,8 @@ position_in r k key = option_and_then (position_named r.name_of (members_of k)) 
 
 -- a null under a key is dropped: in structures and unions alone, and not where its member keeps it
 abbrev pub drops_null : {L : Type 0} → Rules L → Kind → Option ℕ → Bool
-drops_null r (structure_of members) position =
-    not (r.keeps_null (member_place members position))
-drops_null r (union_of members) position =
-    not (r.keeps_null (member_place members position))
+drops_null r (structure_of members) position = not (r.keeps_null (member_place members position))
+drops_null r (union_of members) position = not (r.keeps_null (member_place members position))
 drops_null r _ position = false
 
 -- an entry that is as good as not there

@@ -7,7 +7,8 @@ use Rattle.smithy_shapes.specs.Site.{View}
 use Rattle.smithy_declarations.specs.Value.{text_in}
 use Rattle.smithy_schema.specs.Writing.{Event, begin_structure, end_structure, begin_list, end_list, begin_map, end_map, null_of, scalar_of, big_integer_of, big_decimal_of, document_of, Open}
 use Rattle.smithy_json_grammar.specs.Ascii.{begin_array, end_array, begin_object, end_object}
-use Rattle.smithy_json_codec.specs.Canonical.{name_text, scalar_text, document_text}
+use Rattle.smithy_json_codec.specs.Canonical.{scalar_text, document_text}
+use Rattle.smithy_json.specs.ValueTexts.{name_text}
 use Rattle.smithy_json_codec.specs.Writing.{JsonState, comma_text, lead, form_at, key_wrote, wrote, is_key_due, made, where_taken, big_number_text}
 
 -- a scalar has the containers that it is told of, as a key and as a value

@@ -57,6 +57,12 @@ EndsAt input at result rest =
     (option_map (λ end. drop end input) result ≡ rest)
     × IfSome result (λ end. (at ≤ end) × (end ≤ length input))
 
+-- the place, not before the offset, is where the rest begins
+pub record EndsBefore (input : List ℕ) (at end : ℕ) (rest : List ℕ) : Type 0 where
+  pub value : drop end input ≡ rest
+  pub ordered : at ≤ end
+  pub within : end ≤ length input
+
 -- the number that the leading digits of s write, behind the digits of the number `before`
 abbrev pub run_value : ℕ → List ℕ → ℕ
 run_value before s = digits_value_after 10 before (take (digit_count s) s)

@@ -1,7 +1,6 @@
 use Rattle.std.proofs.Common.{Some, map, string_bytes, sym, ap, ◌∙◌, refl}
 use Rattle.smithy_outside.specs.Outside.{outside}
 use Rattle.smithy_commands.specs.Command.{transcode, gen, compare}
-use Rattle.smithy_commands.specs.Task.{task_of}
 use Rattle.smithy_commands.specs.Words.{transcode_view, gen_view, compare_view, command_view}
 use Rattle.smithy_commands.proofs.CompareLemmas.{compare_is_no_usage}
 use Rattle.smithy_commands.proofs.GenLemmas.{gen_is_no_usage}
@@ -17,7 +16,7 @@ returns-in-Transcode g c = λ err err_behind held held_behind.
     let command = transcode_view c.in-Transcode.command in
     let answer = c.transcode_input.ensures.answer err err_behind held held_behind in
     status_of_command (map string_bytes c.args.words.now) (transcode command) old new c.transcode_input.result (sym c.in-Some.ensures ∙ ap (λ x. Some (command_view x)) c.in-Transcode.is)
-    answer (transcode_is_no_usage (task_of command) old new c.transcode_input.result answer) c.transcode_input.ensures.kept
+    answer (transcode_is_no_usage command old new c.transcode_input.result answer) c.transcode_input.ensures.kept
 
 pub returns-in-Gen : goal.returns-in-Gen
 returns-in-Gen g c = λ err err_behind held held_behind.
