@@ -1,9 +1,8 @@
 -- How the process ends, by its arguments.
-use Rattle.std.specs.Prelude.{◌≡◌, ◌≢◌, ◌⊎◌, ℕ, List, false}
+use Rattle.std.specs.Prelude.{◌≡◌, ◌⊎◌, ℕ, List, false}
 use Rattle.std.specs.declared.io.ErrorKind.{ErrorKind}
-use Rattle.std.specs.declared.io.ErrorKind.TheVariants as kinds
 use Rattle.smithy_outside.specs.Outside.{Outside, OnlyErrMoved, outside, TookLine}
-use Rattle.smithy_outside.specs.Os.{only_counts}
+use Rattle.smithy_outside.specs.Os.{only_counts, IsUnread}
 use Rattle.smithy_commands.specs.declared.status.Status.{Status}
 use Rattle.smithy_commands.specs.declared.status.Status.TheVariants.{Usage, OutOfMemory}
 use Rattle.smithy_commands.specs.ErrorLine.{line_of}
@@ -24,10 +23,6 @@ EndsWithLine status code =
 abbrev pub EndsAsRun : List (List ℕ) → ℕ → Type 0
 EndsAsRun words code = ((new : Outside) × RunAnswer words at_start new code) ⊎ EndsWithLine OutOfMemory code
 
--- the status where the arguments weren't read, by the error
-abbrev pub IsUnread : ErrorKind → Status → Type 0
-IsUnread kind status = (kind ≡ kinds.OutOfMemory → status ≡ OutOfMemory) × (kind ≢ kinds.OutOfMemory → status ≡ Usage)
-
 -- a process whose arguments weren't read ends with this status
 abbrev pub EndsUnread : ErrorKind → ℕ → Type 0
-EndsUnread kind code = (status : Status) × IsUnread kind status × EndsWithLine status code
+EndsUnread kind code = (status : Status) × IsUnread Usage OutOfMemory kind status × EndsWithLine status code

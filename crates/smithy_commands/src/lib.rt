@@ -5,7 +5,6 @@
 //! streams of a process.
 #![tactic(auto)]
 
-mod arguments;
 mod checks;
 mod compare_words;
 mod comparing;
@@ -22,6 +21,6 @@ mod transcoding;
 mod words;
 
 pub use reporting::report;
-pub use running::{exit_code, run};
+pub use running::run;
 pub use status::Status;
 pub use system::run_on_system;

@@ -1,6 +1,5 @@
 //! One run of the program.
 ghost use Rattle.std.specs.Prelude.{Bool, map, string_bytes};
-ghost use Rattle.std.specs.Process.{exit_status};
 ghost use Rattle.smithy_outside.specs.Outside.{Shown, outside};
 ghost use Rattle.smithy_commands.specs.RunAnswer.{StatusAnswer, RunAnswer};
 
@@ -12,7 +11,6 @@ use crate::transcoding::transcode_input;
 use crate::words::Command;
 use smithy_outside::{Files, Sink, Source};
 use std::alloc::Global;
-use std::process::ExitCode;
 
 // How a run with these words ends, whatever standard error tells before and behind it.
 fn status_of<F: Files, S: Source, K: Sink>(
@@ -53,20 +51,4 @@ pub fn run<F: Files, S: Source, K: Sink, E: Sink>(
     let status = status_of(alloc, words, files, input, out);
     report(err, status);
     status.code()
-}
-
-/// Runs the program, and answers what its process ends with.
-pub fn exit_code<F: Files, S: Source, K: Sink, E: Sink>(
-    alloc: Global,
-    words: &[String],
-    files: &mut F,
-    input: &mut S,
-    out: &mut K,
-    err: &mut E,
-) -> ExitCode
-    ensures { RunAnswer (map string_bytes words.now)
-        (outside (F.told files.old) (S.told input.old) (K.told out.old) (E.told err.old) (K.holds_back out.old) (E.holds_back err.old))
-        (outside (F.told files.new) (S.told input.new) (K.told out.new) (E.told err.new) (K.holds_back out.new) (E.holds_back err.new)) (exit_status result) }
-{
-    ExitCode::from(run(alloc, words, files, input, out, err))
 }

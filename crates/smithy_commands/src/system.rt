@@ -5,10 +5,10 @@ ghost use Rattle.std.specs.Process.{exit_status};
 ghost use Rattle.smithy_commands.specs.System.{EndsAsRun, EndsUnread};
 ghost use Rattle.smithy_outside.specs.Os.{words_of};
 
-use crate::arguments::read_words;
 use crate::reporting::report;
-use crate::running::exit_code;
-use smithy_outside::{OsFiles, OsSink, OsSource};
+use crate::running::run;
+use crate::status::Status;
+use smithy_outside::{OsFiles, OsSink, OsSource, read_words};
 use std::alloc::Global;
 use std::env::Args;
 use std::io::{Read, Write};
@@ -29,7 +29,7 @@ pub fn run_on_system<F: rt::Files + Drop, R: Read + Drop, W: Write + Drop, E: Wr
     ensures unread { IfErr arguments (λ error. EndsUnread (error_kind error) (exit_status result)) }
 {
     let mut err = OsSink::new(err);
-    let words = match read_words(alloc, arguments) {
+    let words = match read_words(alloc, arguments, Status::Usage, Status::OutOfMemory) {
         Ok(words) => words,
         Err(status) => {
             report(&mut err, status);
@@ -39,5 +39,6 @@ pub fn run_on_system<F: rt::Files + Drop, R: Read + Drop, W: Write + Drop, E: Wr
     let mut files = OsFiles::new(files);
     let mut input = OsSource::new(input);
     let mut out = OsSink::new(out);
-    exit_code(alloc, &words, &mut files, &mut input, &mut out, &mut err)
+    let code = run(alloc, &words, &mut files, &mut input, &mut out, &mut err);
+    ExitCode::from(code)
 }

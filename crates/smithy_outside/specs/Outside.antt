@@ -1,5 +1,6 @@
 -- What the objects of the outside tell of themselves: what they hold, and how often they failed.
-use Rattle.std.specs.Prelude.{◌≡◌, ◌⊎◌, ◌<◌, ◌+◌, ◌-◌, ◌^◌, ℕ, min, List, [], ◌++◌, length, Bool, false, Result, Ok, Err}
+use Rattle.std.specs.Prelude.{◌≡◌, ◌≢◌, ◌⊎◌, ◌<◌, ◌≤◌, ◌+◌, ◌-◌, ◌^◌, ℕ, min, List, [], ◌++◌, length, take, Bool, false, Result, Ok, Err, Vec, IfOk, OnOk, IsErrOf, MatchResult}
+use Rattle.std.specs.declared.alloc.Global.{Global}
 use Rattle.smithy_outside.specs.declared.outside.LoadFault.{LoadFault}
 use Rattle.smithy_outside.specs.declared.outside.LoadFault.TheVariants as load_faults
 
@@ -104,10 +105,45 @@ GavePast limit old new = (bytes : List ℕ) × Gave bytes old new × (length byt
 abbrev pub IsAtEnd : Shown → Type 0
 IsAtEnd source = (left : List ℕ) → Shows source left → left ≡ []
 
+-- what a load of a path answers that asks for so many bytes at most; each path told `old` before it, and tells `new` after it
+pub record Loads (old new : List ℕ → Shown) (path : List ℕ) (limit : ℕ) (result : Result (Vec ℕ Global) LoadFault) : Type 0 where
+  pub loaded : IfOk result (λ bytes. IsWhole bytes.items (old path))
+  pub within : IfOk result (λ bytes. length bytes.items ≤ limit)
+  pub too_long_only_past_the_limit : IsErrOf result load_faults.TooLong → IsLonger limit (old path)
+  pub missing_is_a_fault : (old path).content ≡ missing → IsErrOf result load_faults.Failed ⊎ IsErrOf result load_faults.NoMemory
+  pub counts : IsCountedLoad result (old path) (new path)
+  -- no path changes what it holds or whether it is steady, and no count falls
+  pub kept : (at : List ℕ) → (new at).content ≡ (old at).content
+  pub steady : (at : List ℕ) → (new at).is_steady ≡ (old at).is_steady
+  pub later : (at : List ℕ) → (old at).faults ≤ (new at).faults
+
+-- what a read of a source answers: how many bytes it gave, which stand at the front of `into`; where that has room, 0 is the end
+pub record Reads {E : Type 0} (old new : Shown) (into : List ℕ) (result : Result ℕ E) : Type 0 where
+  pub bound : IfOk result (λ count. count ≤ length into)
+  pub gave : MatchResult result (λ count. Gave (take count into) old new) (λ _. Gave [] old new)
+  pub end : result ≡ Ok 0 → 0 < length into → IsAtEnd new
+  pub counts : IsCounted result old new
+  pub later : old.faults ≤ new.faults
+
 -- a sink took these bytes, behind what it took before
 abbrev pub Took : List ℕ → Shown → Shown → Type 0
 Took bytes old new =
     (after : List ℕ) → Shows new after → (before : List ℕ) × Shows old before × (after ≡ before ++ bytes)
+
+-- what a write to a sink answers: how many bytes it took from the front of the piece, at least one where there is one
+pub record Writes {E : Type 0} (old new : Shown) (piece : List ℕ) (result : Result ℕ E) : Type 0 where
+  pub bound : IfOk result (λ count. count ≤ length piece)
+  pub took : MatchResult result (λ count. Took (take count piece) old new) (λ _. Took [] old new)
+  pub some : 0 < length piece → result ≢ Ok 0
+  pub counts : IsCounted result old new
+  pub later : old.faults ≤ new.faults
+
+-- what a sink answers that is to pass on what it holds back
+pub record Finishes {E : Type 0} (old new : Shown) (holds_back : Bool) (result : Result (Unit {0}) E) : Type 0 where
+  pub took : Took [] old new
+  pub passed_on : OnOk result (holds_back ≡ false)
+  pub counts : IsCounted result old new
+  pub later : old.faults ≤ new.faults
 
 -- the bytes begin with these
 abbrev pub Begins : List ℕ → List ℕ → Type 0

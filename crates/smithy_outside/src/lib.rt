@@ -4,7 +4,7 @@
 //! `MemoryFiles`, `MemorySource` and `MemorySink` tell it, and fail at the calls that they are made to fail at;
 //! `SteadySource` and `SteadySink` never fail, and tell it.
 //! `OsFiles`, `OsSource` and `OsSink`, over a runtime, a reader and a writer, tell their counts alone.
-//! `read_to_end` and `write_all` move whole streams. `words_behind_name` takes the words of a program from its arguments.
+//! `read_to_end` and `write_all` move whole streams. `read_words` takes the words of a program from its arguments.
 #![tactic(auto)]
 
 mod arguments;
@@ -13,7 +13,7 @@ mod os;
 mod outside;
 mod streams;
 
-pub use arguments::words_behind_name;
+pub use arguments::read_words;
 pub use memory::{MemoryFiles, MemorySink, MemorySource, SteadySink, SteadySource};
 pub use os::{OsFiles, OsSink, OsSource};
 pub use outside::{Failed, Files, LoadFault, Sink, Source};

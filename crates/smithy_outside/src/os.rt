@@ -1,8 +1,8 @@
 //! The real files, standard input, output and error. They tell no content, and count each error.
-ghost use Rattle.std.specs.Prelude.{◌≡◌, ◌≢◌, ◌<◌, ◌≤◌, [], true, false, length, take, IfOk, OnOk, OnErr, MatchResult};
+ghost use Rattle.std.specs.Prelude.{◌≡◌, true, false, OnErr};
 ghost use Rattle.std.specs.Io.KnownBytes.{Keeps, ReadConsumes, WriteAppends};
 ghost use Rattle.smithy_outside.specs.Os.{only_counts};
-ghost use Rattle.smithy_outside.specs.Outside.{IsCounted, Gave, IsAtEnd, Took};
+ghost use Rattle.smithy_outside.specs.Outside.{Reads, Writes, Finishes};
 
 use crate::outside::{Failed, Files, LoadFault, Sink, Source};
 use crate::streams::read_to_end;
@@ -65,11 +65,7 @@ impl<R: Read> Source for OsSource<R> {
     ghost told = { λ s. only_counts s.faults };
 
     fn read(&mut self, into: &mut [u8]) -> Result<usize, Failed>
-        ensures bound { IfOk result (λ count. count ≤ length into.new) }
-        ensures gave { MatchResult result (λ count. Gave (take count into.new) (only_counts self.old.faults) (only_counts self.new.faults)) (λ _. Gave [] (only_counts self.old.faults) (only_counts self.new.faults)) }
-        ensures end { result ≡ Ok 0 → 0 < length into.new → IsAtEnd (only_counts self.new.faults) }
-        ensures counts { IsCounted result (only_counts self.old.faults) (only_counts self.new.faults) }
-        ensures later { self.old.faults ≤ self.new.faults }
+        ensures reads { Reads (only_counts self.old.faults) (only_counts self.new.faults) into.new result }
 
         // What the reader gave stands at the front, and is what is answered.
         ensures passes { ReadConsumes (R.remaining self.old.input) (R.remaining self.new.input) result into.new }
@@ -116,11 +112,7 @@ impl<W: Write> Sink for OsSink<W> {
     ghost holds_back = { λ s. s.is_unfinished };
 
     fn write(&mut self, piece: &[u8]) -> Result<usize, Failed>
-        ensures bound { IfOk result (λ count. count ≤ length piece.now) }
-        ensures took { MatchResult result (λ count. Took (take count piece.now) (only_counts self.old.faults) (only_counts self.new.faults)) (λ _. Took [] (only_counts self.old.faults) (only_counts self.new.faults)) }
-        ensures some { 0 < length piece.now → result ≢ Ok 0 }
-        ensures counts { IsCounted result (only_counts self.old.faults) (only_counts self.new.faults) }
-        ensures later { self.old.faults ≤ self.new.faults }
+        ensures writes { Writes (only_counts self.old.faults) (only_counts self.new.faults) piece.now result }
 
         // What the writer took of the piece is what is answered.
         ensures passes { WriteAppends (W.contents self.old.output) (W.contents self.new.output) result piece.now }
@@ -138,10 +130,7 @@ impl<W: Write> Sink for OsSink<W> {
     }
 
     fn finish(&mut self) -> Result<(), Failed>
-        ensures took { Took [] (only_counts self.old.faults) (only_counts self.new.faults) }
-        ensures passed_on { OnOk result (self.new.is_unfinished ≡ false) }
-        ensures counts { IsCounted result (only_counts self.old.faults) (only_counts self.new.faults) }
-        ensures later { self.old.faults ≤ self.new.faults }
+        ensures finishes { Finishes (only_counts self.old.faults) (only_counts self.new.faults) self.new.is_unfinished result }
 
         // The writer still holds what it held. Where the call fails, the sink is as unfinished as it was.
         ensures keeps { Keeps (W.contents self.old.output) (W.contents self.new.output) }

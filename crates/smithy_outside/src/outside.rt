@@ -2,9 +2,9 @@
 //!
 //! Each object counts its faults, and may tell what it holds. The clauses on content hold where it
 //! is told, and a count that stands at its last value shows no further fault.
-ghost use Rattle.std.specs.Prelude.{◌≡◌, ◌≢◌, ◌⊎◌, ◌<◌, ◌≤◌, [], List, Bool, ℕ, false, length, take, IfOk, OnOk, IsErrOf, MatchResult};
+ghost use Rattle.std.specs.Prelude.{◌≡◌, List, Bool, ℕ};
 ghost use Rattle.smithy_outside.specs.declared.outside.LoadFault.TheVariants as faults;
-ghost use Rattle.smithy_outside.specs.Outside.{Shown, missing, IsCounted, IsCountedLoad, IsWhole, IsLonger, Gave, IsAtEnd, Took};
+ghost use Rattle.smithy_outside.specs.Outside.{Shown, Loads, Reads, Writes, Finishes};
 
 use std::alloc::{AllocError, Global};
 use thiserror::Error;
@@ -50,18 +50,9 @@ pub trait Files {
     ghost told: { Self → List ℕ → Shown };
 
     /// The whole content of the path, where it has at most `limit` bytes: `TooLong` where it has more. A path where no file is fails, and
-    /// is counted.
+    /// is counted. No path changes what it holds or whether it is steady, and no count falls.
     fn load(&mut self, alloc: Global, path: &str, limit: usize) -> Result<Vec<u8>, LoadFault>
-        ensures loaded { IfOk result (λ bytes. IsWhole bytes.items (told self.old path.now)) }
-        ensures within { IfOk result (λ bytes. length bytes.items ≤ limit) }
-        ensures too_long_only_past_the_limit { IsErrOf result LoadFault.TooLong → IsLonger limit (told self.old path.now) }
-        ensures missing_is_a_fault { (told self.old path.now).content ≡ missing → IsErrOf result LoadFault.Failed ⊎ IsErrOf result LoadFault.NoMemory }
-        ensures counts { IsCountedLoad result (told self.old path.now) (told self.new path.now) }
-
-        // No path changes what it holds or whether it is steady, and no count falls.
-        ensures kept { (at : List ℕ) → (told self.new at).content ≡ (told self.old at).content }
-        ensures steady { (at : List ℕ) → (told self.new at).is_steady ≡ (told self.old at).is_steady }
-        ensures later { (at : List ℕ) → (told self.old at).faults ≤ (told self.new at).faults };
+        ensures { Loads (told self.old) (told self.new) path.now limit result };
 }
 
 /// A source of bytes, which are read once, from the front.
@@ -71,11 +62,7 @@ pub trait Source {
 
     /// Puts bytes at the front of `into`, and answers how many. At an `into` with room, 0 is the end.
     fn read(&mut self, into: &mut [u8]) -> Result<usize, Failed>
-        ensures bound { IfOk result (λ count. count ≤ length into.new) }
-        ensures gave { MatchResult result (λ count. Gave (take count into.new) (told self.old) (told self.new)) (λ _. Gave [] (told self.old) (told self.new)) }
-        ensures end { result ≡ Ok 0 → 0 < length into.new → IsAtEnd (told self.new) }
-        ensures counts { IsCounted result (told self.old) (told self.new) }
-        ensures later { (told self.old).faults ≤ (told self.new).faults };
+        ensures { Reads (told self.old) (told self.new) into.new result };
 }
 
 /// A sink for bytes. It may hold some of them back until it is finished.
@@ -88,16 +75,9 @@ pub trait Sink {
 
     /// Takes bytes from the front of `piece`, and answers how many: at least one, if there is one.
     fn write(&mut self, piece: &[u8]) -> Result<usize, Failed>
-        ensures bound { IfOk result (λ count. count ≤ length piece.now) }
-        ensures took { MatchResult result (λ count. Took (take count piece.now) (told self.old) (told self.new)) (λ _. Took [] (told self.old) (told self.new)) }
-        ensures some { 0 < length piece.now → result ≢ Ok 0 }
-        ensures counts { IsCounted result (told self.old) (told self.new) }
-        ensures later { (told self.old).faults ≤ (told self.new).faults };
+        ensures { Writes (told self.old) (told self.new) piece.now result };
 
     /// Passes on what is held back.
     fn finish(&mut self) -> Result<(), Failed>
-        ensures took { Took [] (told self.old) (told self.new) }
-        ensures passed_on { OnOk result (holds_back self.new ≡ false) }
-        ensures counts { IsCounted result (told self.old) (told self.new) }
-        ensures later { (told self.old).faults ≤ (told self.new).faults };
+        ensures { Finishes (told self.old) (told self.new) (holds_back self.new) result };
 }

@@ -1,9 +1,8 @@
 -- How the process ends, by its arguments.
-use Rattle.std.specs.Prelude.{◌≡◌, ◌≢◌, ◌⊎◌, ℕ, List, Bool}
+use Rattle.std.specs.Prelude.{◌≡◌, ◌⊎◌, ℕ, List, Bool}
 use Rattle.std.specs.declared.io.ErrorKind.{ErrorKind}
-use Rattle.std.specs.declared.io.ErrorKind.TheVariants as kinds
 use Rattle.smithy_outside.specs.Outside.{Shown, TookLine}
-use Rattle.smithy_outside.specs.Os.{only_counts}
+use Rattle.smithy_outside.specs.Os.{only_counts, IsUnread}
 use Rattle.smithy_table_commands.specs.declared.status.Status.{Status}
 use Rattle.smithy_table_commands.specs.declared.status.Status.TheVariants.{Usage, OutOfMemory}
 use Rattle.smithy_table_commands.specs.Status.{status_code, line_of}
@@ -25,11 +24,6 @@ EndsAsRun words code =
     × RunAnswer words (λ path. at_start) files at_start out at_start err out_holds_back err_holds_back code)
     ⊎ EndsWithLine OutOfMemory code
 
--- the status where the arguments weren't read, by the error
-abbrev pub IsUnread : ErrorKind → Status → Type 0
-IsUnread kind status =
-    (kind ≡ kinds.OutOfMemory → status ≡ OutOfMemory) × (kind ≢ kinds.OutOfMemory → status ≡ Usage)
-
 -- a process whose arguments weren't read ends with this status
 abbrev pub EndsUnread : ErrorKind → ℕ → Type 0
-EndsUnread kind code = (status : Status) × IsUnread kind status × EndsWithLine status code
+EndsUnread kind code = (status : Status) × IsUnread Usage OutOfMemory kind status × EndsWithLine status code

@@ -4,7 +4,6 @@
 //! program ends with; `run_on_system` takes the arguments, files and streams of a process.
 #![tactic(auto)]
 
-mod arguments;
 mod left_out;
 mod reporting;
 mod running;

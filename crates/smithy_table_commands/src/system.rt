@@ -5,10 +5,10 @@ ghost use Rattle.std.specs.Process.{exit_status};
 ghost use Rattle.smithy_table_commands.specs.System.{EndsAsRun, EndsUnread};
 ghost use Rattle.smithy_outside.specs.Os.{words_of};
 
-use crate::arguments::read_words;
 use crate::reporting::report;
 use crate::running::run;
-use smithy_outside::{OsFiles, OsSink};
+use crate::status::Status;
+use smithy_outside::{OsFiles, OsSink, read_words};
 use std::alloc::Global;
 use std::env::Args;
 use std::io::Write;
@@ -28,7 +28,7 @@ pub fn run_on_system<F: rt::Files + Drop, W: Write + Drop, E: Write + Drop>(
     ensures unread { IfErr arguments (λ error. EndsUnread (error_kind error) (exit_status result)) }
 {
     let mut err = OsSink::new(err);
-    let words = match read_words(alloc, arguments) {
+    let words = match read_words(alloc, arguments, Status::Usage, Status::OutOfMemory) {
         Ok(words) => words,
         Err(status) => {
             report(&mut err, status);

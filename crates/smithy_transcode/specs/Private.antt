@@ -1,4 +1,5 @@
 -- Words that private clauses cite.
 pub mod Positions
 pub mod ReadWhole
+pub mod Standing
 pub mod ValueTest

@@ -1,6 +1,6 @@
 //! What a wire can't express.
-ghost use Rattle.std.specs.Prelude.{◌≡◌, ℕ, List, ◌&&◌, ◌||◌, not, None, true, false};
-ghost use Rattle.smithy_shapes.specs.Fits.{Fits, FitsOr};
+ghost use Rattle.std.specs.Prelude.{◌≡◌, ℕ, List, ◌&&◌, ◌||◌, not, None, false};
+ghost use Rattle.smithy_shapes.specs.Fits.{Fits};
 ghost use Rattle.smithy_shapes.specs.Holding.{may_hold};
 ghost use Rattle.smithy_shapes.specs.ScalarTest.{scalars_pass};
 ghost use Rattle.smithy_shapes.specs.Site.{site_of};
@@ -10,6 +10,7 @@ ghost use Rattle.smithy_query_codec.specs.Nulls.{holds_null as null_in};
 ghost use Rattle.smithy_value.specs.View.{view};
 ghost use Rattle.smithy_transcode.specs.Wires.{wire_of, has_nulls, holds_document, unfit as unfit_for, unfit_at};
 ghost use Rattle.smithy_transcode.specs.Private.Positions.{CanCount};
+ghost use Rattle.smithy_transcode.specs.Private.Standing.{IsValueAt};
 ghost use Rattle.smithy_transcode.specs.Private.ValueTest.{test_view};
 
 use crate::nulls::holds_null;
@@ -36,9 +37,7 @@ fn can_fail(schema: &Schema<'_>, test: ValueTest) -> bool
 
 // The value passes the test. It is gone through only where it can fail.
 fn passes<P: Trees>(trees: &P, schema: &Schema<'_>, value: &P::Tree, test: ValueTest) -> bool
-    requires sound { (i : List ℕ) × P.sound trees.now i }
-    requires stands { P.stands trees.now value.now }
-    requires fits { FitsOr schema.now.shapes.now schema.now.place true (P.view trees.now value.now) }
+    requires { IsValueAt P.sound P.stands P.view trees.now (site_of schema.now) value.now }
     ensures { result ≡ scalars_pass (test_view test) (site_of schema.now) (P.view trees.now value.now) }
 {
     if can_fail(schema, test) {
@@ -54,9 +53,7 @@ fn lacks_document<P: Trees>(
     value: &P::Tree,
     test: ValueTest,
 ) -> bool
-    requires sound { (i : List ℕ) × P.sound trees.now i }
-    requires stands { P.stands trees.now value.now }
-    requires fits { FitsOr schema.now.shapes.now schema.now.place true (P.view trees.now value.now) }
+    requires { IsValueAt P.sound P.stands P.view trees.now (site_of schema.now) value.now }
     ensures { result ≡ (not test.documents && holds_document (site_of schema.now) (P.view trees.now value.now)) }
 {
     let without_documents = ValueTest {
@@ -86,9 +83,7 @@ pub(crate) fn unfit<P: Trees>(
     value: &P::Tree,
     to: &Wire,
 ) -> Option<Unfit>
-    requires sound { (i : List ℕ) × P.sound trees.now i }
-    requires stands { P.stands trees.now value.now }
-    requires fits { FitsOr schema.now.shapes.now schema.now.place true (P.view trees.now value.now) }
+    requires { IsValueAt P.sound P.stands P.view trees.now (site_of schema.now) value.now }
     ensures unfit { result ≡ unfit_at (wire_of to.now) (site_of schema.now) (P.view trees.now value.now) }
     ensures positions { result ≡ None → CanCount (wire_of to.now) (P.view trees.now value.now) }
 {

@@ -1,10 +1,10 @@
 //! The tree in a pool that a whole body spells.
-ghost use Rattle.std.specs.Prelude.{◌≡◌, IfOk};
+ghost use Rattle.std.specs.Prelude.{IfOk};
 ghost use Rattle.smithy_declarations.specs.Table.{IsStructure, kind_of, shape_place};
 ghost use Rattle.smithy_tree.specs.Seen.{IsSound, HoldsSlot, view};
 ghost use Rattle.smithy_transcode.specs.ReadBody.{ReadsBody};
 ghost use Rattle.smithy_transcode.specs.Wires.{wire_of};
-ghost use Rattle.smithy_value.specs.Pooled.{slot_view};
+ghost use Rattle.smithy_value.specs.Pooled.{slot_view, IsPoolOf};
 ghost use Rattle.smithy_transcode.specs.Private.ReadWhole.{ReadsWhole};
 
 use crate::refusal::refusal;
@@ -26,8 +26,7 @@ pub fn read_body_into(
     pool: &mut Pool<'_>,
 ) -> Result<Slot, TranscodeError>
     requires root { IsStructure (kind_of shapes.now (shape_place root.0)) }
-    requires sound { IsSound pool.old }
-    requires input { pool.old.input.now ≡ input.now }
+    requires pool { IsPoolOf pool.old input.now }
     ensures read { ReadsBody (λ s. view pool.new s.node) shapes.now root.0 (wire_of from.now) input.now result }
     ensures sound { IfOk result (λ s. IsSound pool.new × HoldsSlot pool.new s) }
 {
@@ -47,8 +46,7 @@ pub(crate) fn read_whole(
     pool: &mut Pool<'_>,
 ) -> Result<Slot, SerdeError>
     requires root { IsStructure (kind_of shapes.now (shape_place root.0)) }
-    requires sound { IsSound pool.old }
-    requires input { pool.old.input.now ≡ input.now }
+    requires pool { IsPoolOf pool.old input.now }
     ensures read { ReadsWhole (slot_view pool.new) (wire_of from.now) shapes.now root.0 input.now result }
     ensures sound { IfOk result (λ s. IsSound pool.new × HoldsSlot pool.new s) }
 {

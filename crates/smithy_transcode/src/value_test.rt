@@ -6,6 +6,7 @@ ghost use Rattle.smithy_shapes.specs.Site.{site_of};
 ghost use Rattle.smithy_declarations.specs.TimeForms.{format_of, form_or};
 ghost use Rattle.smithy_declarations.specs.Value.{instant, list, map, structure, union, values_of};
 ghost use Rattle.smithy_value.specs.Tree.{entries_view, members_view, part_view, Each, EntriesStand, MembersStand, PartStands};
+ghost use Rattle.smithy_transcode.specs.Private.Standing.{IsValueAt};
 ghost use Rattle.smithy_transcode.specs.Private.ValueTest.{instant_passes as passes_as, test_view};
 ghost use Rattle.smithy_transcode.specs.Wires.{wire_of, holds};
 
@@ -77,9 +78,7 @@ pub(crate) fn value_passes<P: Trees>(
     value: &P::Tree,
     test: ValueTest,
 ) -> bool
-    requires sound { (i : List ℕ) × P.sound trees.now i }
-    requires stands { P.stands trees.now value.now }
-    requires fits { FitsOr schema.now.shapes.now schema.now.place true (P.view trees.now value.now) }
+    requires { IsValueAt P.sound P.stands P.view trees.now (site_of schema.now) value.now }
     ensures { result ≡ scalars_pass (test_view test) (site_of schema.now) (P.view trees.now value.now) }
 {
     part_passes::<P>(trees, schema, &trees.part(value), test)

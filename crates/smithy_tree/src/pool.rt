@@ -107,8 +107,7 @@ impl<'a> Pool<'a> {
         ensures ok { IfOk result (λ r. ClosesMembers self.old self.new begin r.0 r.1) }
     {
         self.arrange(alloc, Order::Positions, begin)?;
-        let (at, count) = self.close(begin)?;
-        Ok((at, count))
+        self.close(begin)
     }
 
     /// Makes the entries of a map of those that wait from a place on, in the order of their keys.
@@ -118,8 +117,7 @@ impl<'a> Pool<'a> {
         ensures ok { IfOk result (λ r. ClosesEntries self.old self.new begin r.0 r.1) }
     {
         self.arrange(alloc, Order::Keys, begin)?;
-        let (at, count) = self.close(begin)?;
-        Ok((at, count))
+        self.close(begin)
     }
 
     /// The children that stand from a place on.

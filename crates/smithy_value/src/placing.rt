@@ -15,8 +15,7 @@ fn copy_text(pool: &mut Pool<'_>, text: &str) -> Result<(u32, u32), SerdeError>
     ensures ok { IfOk result (λ r. HasText pool.old pool.new r.0 r.1 text.now) }
     ensures err { IfErr result (λ e. e ≡ NoMemory) }
 {
-    let (at, size) = pool.copy(text.as_bytes())?;
-    Ok((at, size))
+    Ok(pool.copy(text.as_bytes())?)
 }
 
 // Where the text stands in the pool.
@@ -34,10 +33,7 @@ pub(crate) fn place_text(pool: &mut Pool<'_>, text: TextSpan) -> Result<(u32, u3
             }
             Ok((at as u32, size as u32))
         }
-        TextSpan::Owned(text) => {
-            let (at, size) = copy_text(pool, text.as_str())?;
-            Ok((at, size))
-        }
+        TextSpan::Owned(text) => copy_text(pool, text.as_str()),
     }
 }
 
@@ -56,9 +52,6 @@ pub(crate) fn place_bytes(pool: &mut Pool<'_>, bytes: BytesSpan) -> Result<(u32,
             }
             Ok((at as u32, size as u32))
         }
-        BytesSpan::Owned(blob) => {
-            let (at, size) = pool.copy(blob.as_ref())?;
-            Ok((at, size))
-        }
+        BytesSpan::Owned(blob) => Ok(pool.copy(blob.as_ref())?),
     }
 }

@@ -1,8 +1,8 @@
 //! Reading a value tree from any wire.
-ghost use Rattle.std.specs.Prelude.{◌≡◌, true, IfOk};
+ghost use Rattle.std.specs.Prelude.{◌≡◌, true};
 ghost use Rattle.smithy_declarations.specs.Table.{type_of, IsStructure, IsUnion, IsList, IsMap};
 ghost use Rattle.smithy_shapes.specs.Site.{site_of, kind_at};
-ghost use Rattle.smithy_value.specs.ReadValue.{ReadsValue};
+ghost use Rattle.smithy_value.specs.ReadTree.{ReadsBy, ReadsTree};
 ghost use Rattle.smithy_value.specs.View.{view};
 ghost use Rattle.smithy_value.specs.Private.Rare.{IsRare};
 
@@ -13,9 +13,8 @@ use crate::value_trees::ValueTrees;
 use smithy_schema::{BorrowDeserializer, PieceDeserializer, Schema, SerdeError, ShapeType, Step};
 use std::alloc::Global;
 
-/// Reads the value of the schema that is due, whatever the wire. Its texts and bytes borrow from the input of the reader, where they stand
-/// in it in one piece, and may outlive the reader. An error is the reader's own, or `InvalidInput` of a union of no member or of several.
-/// The reader has failed then, but where memory was wanting for what was read.
+/// Reads the value of the schema that is due, whatever the wire. Its texts and bytes borrow from the input of the reader, which they
+/// may outlive.
 pub fn read_value<'a, D: BorrowDeserializer<'a>>(
     alloc: Global,
     source: &mut D,
@@ -23,7 +22,7 @@ pub fn read_value<'a, D: BorrowDeserializer<'a>>(
 ) -> Result<Value<'a>, SerdeError>
     requires due { (D.state source.old).due ≡ true }
     ensures same { D.settings source.new ≡ D.settings source.old }
-    ensures reads { let r = D.reading (D.settings source.old) in ReadsValue r.wire r.lifted r.tells_without_limits r.max_depth (D.state source.old) (D.state source.new) (site_of schema.now) view result }
+    ensures reads { ReadsBy D.ShapeDeserializer source.old source.new (site_of schema.now) view result }
 {
     let mut texts = Borrowing::<'_, 'a, D>::new(source);
     read_through(alloc, &mut texts, schema)
@@ -38,7 +37,7 @@ fn read_through<'a, D: BorrowDeserializer<'a>>(
     requires due { (D.state texts.old.source.now).due ≡ true }
     ensures same_reference { texts.new.source.ghost_name ≡ texts.old.source.ghost_name }
     ensures same { D.settings texts.new.source.now ≡ D.settings texts.old.source.now }
-    ensures reads { let r = D.reading (D.settings texts.old.source.now) in ReadsValue r.wire r.lifted r.tells_without_limits r.max_depth (D.state texts.old.source.now) (D.state texts.new.source.now) (site_of schema.now) view result }
+    ensures reads { ReadsBy D.ShapeDeserializer texts.old.source.now texts.new.source.now (site_of schema.now) view result }
 {
     let mut trees = ValueTrees::new();
     read_tree::<ValueTrees<'a>, Borrowing<'_, 'a, D>>(alloc, texts, &mut trees, schema)
@@ -55,9 +54,7 @@ pub fn read_tree<P: Trees, D: PieceDeserializer<Text = P::Text, Bytes = P::Bytes
 ) -> Result<P::Tree, SerdeError>
     requires due { (D.state source.old).due ≡ true }
     requires sound { P.sound trees.old (D.state source.old).input }
-    ensures same { D.settings source.new ≡ D.settings source.old }
-    ensures reads { let r = D.reading (D.settings source.old) in ReadsValue r.wire r.lifted r.tells_without_limits r.max_depth (D.state source.old) (D.state source.new) (site_of schema.now) (P.view trees.new) result }
-    ensures adds { IfOk result (λ x. P.keeps trees.old trees.new × P.stands trees.new x) }
+    ensures { ReadsTree D.ShapeDeserializer P.keeps P.stands P.view source.old source.new trees.old trees.new (site_of schema.now) result }
 {
     match schema.shape_type() {
         ShapeType::Boolean => Ok(P::boolean(source.read_boolean(schema)?)),
@@ -89,9 +86,7 @@ fn read_out_of_line<P: Trees, D: PieceDeserializer<Text = P::Text, Bytes = P::By
     requires due { (D.state source.old).due ≡ true }
     requires sound { P.sound trees.old (D.state source.old).input }
     requires rare { IsRare (type_of (kind_at (site_of schema.now))) }
-    ensures same { D.settings source.new ≡ D.settings source.old }
-    ensures reads { let r = D.reading (D.settings source.old) in ReadsValue r.wire r.lifted r.tells_without_limits r.max_depth (D.state source.old) (D.state source.new) (site_of schema.now) (P.view trees.new) result }
-    ensures adds { IfOk result (λ x. P.keeps trees.old trees.new × P.stands trees.new x) }
+    ensures { ReadsTree D.ShapeDeserializer P.keeps P.stands P.view source.old source.new trees.old trees.new (site_of schema.now) result }
 {
     match schema.shape_type() {
         ShapeType::BigInteger => match source.read_big_integer(schema)?.to_i128() {
@@ -129,9 +124,7 @@ fn read_structure<P: Trees, D: PieceDeserializer<Text = P::Text, Bytes = P::Byte
     requires due { (D.state source.old).due ≡ true }
     requires sound { P.sound trees.old (D.state source.old).input }
     requires place { IsStructure (kind_at (site_of schema.now)) }
-    ensures same { D.settings source.new ≡ D.settings source.old }
-    ensures reads { let r = D.reading (D.settings source.old) in ReadsValue r.wire r.lifted r.tells_without_limits r.max_depth (D.state source.old) (D.state source.new) (site_of schema.now) (P.view trees.new) result }
-    ensures adds { IfOk result (λ x. P.keeps trees.old trees.new × P.stands trees.new x) }
+    ensures { ReadsTree D.ShapeDeserializer P.keeps P.stands P.view source.old source.new trees.old trees.new (site_of schema.now) result }
 {
     source.open_struct(schema)?;
     let mut members = trees.no_members(alloc);
@@ -161,9 +154,7 @@ fn read_union<P: Trees, D: PieceDeserializer<Text = P::Text, Bytes = P::Bytes>>(
     requires due { (D.state source.old).due ≡ true }
     requires sound { P.sound trees.old (D.state source.old).input }
     requires place { IsUnion (kind_at (site_of schema.now)) }
-    ensures same { D.settings source.new ≡ D.settings source.old }
-    ensures reads { let r = D.reading (D.settings source.old) in ReadsValue r.wire r.lifted r.tells_without_limits r.max_depth (D.state source.old) (D.state source.new) (site_of schema.now) (P.view trees.new) result }
-    ensures adds { IfOk result (λ x. P.keeps trees.old trees.new × P.stands trees.new x) }
+    ensures { ReadsTree D.ShapeDeserializer P.keeps P.stands P.view source.old source.new trees.old trees.new (site_of schema.now) result }
 {
     source.open_struct(schema)?;
     let Step::Member(member) = source.next_member(schema)? else {
@@ -192,9 +183,7 @@ fn read_list<P: Trees, D: PieceDeserializer<Text = P::Text, Bytes = P::Bytes>>(
     requires due { (D.state source.old).due ≡ true }
     requires sound { P.sound trees.old (D.state source.old).input }
     requires place { IsList (kind_at (site_of schema.now)) }
-    ensures same { D.settings source.new ≡ D.settings source.old }
-    ensures reads { let r = D.reading (D.settings source.old) in ReadsValue r.wire r.lifted r.tells_without_limits r.max_depth (D.state source.old) (D.state source.new) (site_of schema.now) (P.view trees.new) result }
-    ensures adds { IfOk result (λ x. P.keeps trees.old trees.new × P.stands trees.new x) }
+    ensures { ReadsTree D.ShapeDeserializer P.keeps P.stands P.view source.old source.new trees.old trees.new (site_of schema.now) result }
 {
     source.open_list(schema)?;
     let sparse = schema.is_sparse();
@@ -225,9 +214,7 @@ fn read_map<P: Trees, D: PieceDeserializer<Text = P::Text, Bytes = P::Bytes>>(
     requires due { (D.state source.old).due ≡ true }
     requires sound { P.sound trees.old (D.state source.old).input }
     requires place { IsMap (kind_at (site_of schema.now)) }
-    ensures same { D.settings source.new ≡ D.settings source.old }
-    ensures reads { let r = D.reading (D.settings source.old) in ReadsValue r.wire r.lifted r.tells_without_limits r.max_depth (D.state source.old) (D.state source.new) (site_of schema.now) (P.view trees.new) result }
-    ensures adds { IfOk result (λ x. P.keeps trees.old trees.new × P.stands trees.new x) }
+    ensures { ReadsTree D.ShapeDeserializer P.keeps P.stands P.view source.old source.new trees.old trees.new (site_of schema.now) result }
 {
     source.open_map(schema)?;
     let sparse = schema.is_sparse();

@@ -3,10 +3,10 @@ ghost use Rattle.std.specs.Prelude.{◌≡◌, ℕ, List, map as mapped, true};
 ghost use Rattle.smithy_shapes.specs.Fits.{FitsOr, is_scalar_of};
 ghost use Rattle.smithy_shapes.specs.Site.{site_of, kind_at};
 ghost use Rattle.smithy_declarations.specs.Value.{whole, list, map, structure, union, values_of};
-ghost use Rattle.smithy_schema.specs.Writing.{write, scalar_of};
+ghost use Rattle.smithy_schema.specs.Writing.{scalar_of};
 ghost use Rattle.smithy_tree.specs.Items.{whole_values};
 ghost use Rattle.smithy_value.specs.View.{view};
-ghost use Rattle.smithy_value.specs.WriteValue.{WritesValue};
+ghost use Rattle.smithy_value.specs.WriteValue.{WritesValue, WritesBy};
 ghost use Rattle.smithy_value.specs.Tree.{entries_view, members_view, part_view, Each, EntriesStand, MembersStand, PartStands};
 
 use crate::entries::{Entries, Members};
@@ -26,7 +26,7 @@ pub fn write_value<S: ShapeSerializer>(
     value: &Value<'_>,
 ) -> Result<(), SerdeError>
     requires fits { FitsOr schema.now.shapes.now schema.now.place true (view value.now) }
-    ensures writes { WritesValue (write S.after (site_of schema.now) (view value.now) (S.state sink.old)) (S.failed sink.old) (S.failed sink.new) (S.state sink.new) result }
+    ensures writes { WritesBy S.ShapeSerializer sink.old sink.new (site_of schema.now) (view value.now) result }
 {
     let trees = ValueTrees::new();
     write_tree::<ValueTrees<'_>, S>(sink, &trees, schema, &trees.part(value))
@@ -46,7 +46,7 @@ pub fn write_tree<P: Trees, S: ShapeSerializer>(
     requires sound { (i : List ℕ) × P.sound trees.now i }
     requires stands { PartStands (P.stands trees.now) part.now }
     requires fits { FitsOr schema.now.shapes.now schema.now.place true (part_view (P.view trees.now) (P.key_of trees.now) P.position_of part.now) }
-    ensures writes { WritesValue (write S.after (site_of schema.now) (part_view (P.view trees.now) (P.key_of trees.now) P.position_of part.now) (S.state sink.old)) (S.failed sink.old) (S.failed sink.new) (S.state sink.new) result }
+    ensures writes { WritesBy S.ShapeSerializer sink.old sink.new (site_of schema.now) (part_view (P.view trees.now) (P.key_of trees.now) P.position_of part.now) result }
 {
     match part {
         Part::Boolean(value) => sink.write_boolean(schema, *value),
@@ -104,7 +104,7 @@ fn write_list<P: Trees, S: ShapeSerializer>(
     requires sound { (i : List ℕ) × P.sound trees.now i }
     requires stands { Each (P.stands trees.now) elements.now }
     requires fits { FitsOr schema.now.shapes.now schema.now.place true (list (values_of (mapped (P.view trees.now) elements.now))) }
-    ensures writes { WritesValue (write S.after (site_of schema.now) (list (values_of (mapped (P.view trees.now) elements.now))) (S.state sink.old)) (S.failed sink.old) (S.failed sink.new) (S.state sink.new) result }
+    ensures writes { WritesBy S.ShapeSerializer sink.old sink.new (site_of schema.now) (list (values_of (mapped (P.view trees.now) elements.now))) result }
 {
     let Some(member) = schema.member() else {
         unreachable!()
@@ -125,7 +125,7 @@ fn write_numbers<S: ShapeSerializer>(
     numbers: &[i64],
 ) -> Result<(), SerdeError>
     requires fits { FitsOr schema.now.shapes.now schema.now.place true (list (values_of (whole_values numbers.now))) }
-    ensures writes { WritesValue (write S.after (site_of schema.now) (list (values_of (whole_values numbers.now))) (S.state sink.old)) (S.failed sink.old) (S.failed sink.new) (S.state sink.new) result }
+    ensures writes { WritesBy S.ShapeSerializer sink.old sink.new (site_of schema.now) (list (values_of (whole_values numbers.now))) result }
 {
     let Some(member) = schema.member() else {
         unreachable!()
@@ -149,7 +149,7 @@ fn write_structure<P: Trees, S: ShapeSerializer>(
     requires sound { (i : List ℕ) × P.sound trees.now i }
     requires stands { MembersStand (P.stands trees.now) members.now }
     requires fits { FitsOr schema.now.shapes.now schema.now.place true (structure (members_view (P.view trees.now) P.position_of members.now)) }
-    ensures writes { WritesValue (write S.after (site_of schema.now) (structure (members_view (P.view trees.now) P.position_of members.now)) (S.state sink.old)) (S.failed sink.old) (S.failed sink.new) (S.state sink.new) result }
+    ensures writes { WritesBy S.ShapeSerializer sink.old sink.new (site_of schema.now) (structure (members_view (P.view trees.now) P.position_of members.now)) result }
 {
     sink.begin_struct(schema)?;
     let mut left = members.iter();
@@ -174,7 +174,7 @@ fn write_union<P: Trees, S: ShapeSerializer>(
     requires sound { (i : List ℕ) × P.sound trees.now i }
     requires stands { P.stands trees.now value.now }
     requires fits { FitsOr schema.now.shapes.now schema.now.place true (union index (P.view trees.now value.now)) }
-    ensures writes { WritesValue (write S.after (site_of schema.now) (union index (P.view trees.now value.now)) (S.state sink.old)) (S.failed sink.old) (S.failed sink.new) (S.state sink.new) result }
+    ensures writes { WritesBy S.ShapeSerializer sink.old sink.new (site_of schema.now) (union index (P.view trees.now value.now)) result }
 {
     let Some(member) = schema.member_at(index) else {
         unreachable!()
@@ -195,7 +195,7 @@ fn write_map<P: Trees, S: ShapeSerializer>(
     requires sound { (i : List ℕ) × P.sound trees.now i }
     requires stands { EntriesStand (P.stands trees.now) entries.now }
     requires fits { FitsOr schema.now.shapes.now schema.now.place true (map (entries_view (P.view trees.now) (P.key_of trees.now) entries.now)) }
-    ensures writes { WritesValue (write S.after (site_of schema.now) (map (entries_view (P.view trees.now) (P.key_of trees.now) entries.now)) (S.state sink.old)) (S.failed sink.old) (S.failed sink.new) (S.state sink.new) result }
+    ensures writes { WritesBy S.ShapeSerializer sink.old sink.new (site_of schema.now) (map (entries_view (P.view trees.now) (P.key_of trees.now) entries.now)) result }
 {
     let Some(key_schema) = schema.key() else {
         unreachable!()

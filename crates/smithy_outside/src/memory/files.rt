@@ -1,5 +1,5 @@
 //! Files in memory.
-ghost use Rattle.std.specs.Prelude.{◌≡◌, ◌⊎◌, ◌≤◌, ℕ, List, length, Contains, IsNone, IfOk, IsErrOf};
+ghost use Rattle.std.specs.Prelude.{◌≡◌, ◌⊎◌, Contains, IsNone, IsErrOf};
 
 use super::is_failing_call;
 use crate::outside::{Files, LoadFault};
@@ -39,19 +39,12 @@ impl MemoryFiles {
 impl Files for MemoryFiles {
     ghost use Rattle.smithy_outside.specs.Memory.{files_told, IsCountedIf};
     ghost use Rattle.std.specs.BTreeMap.{get_by_text};
-    ghost use Rattle.smithy_outside.specs.Outside.{missing, counted, IsCountedLoad, IsWhole, IsLonger};
+    ghost use Rattle.smithy_outside.specs.Outside.{counted, Loads};
 
     ghost told = { files_told };
 
     fn load(&mut self, alloc: Global, path: &str, limit: usize) -> Result<Vec<u8>, LoadFault>
-        ensures loaded { IfOk result (λ bytes. IsWhole bytes.items (files_told self.old path.now)) }
-        ensures within { IfOk result (λ bytes. length bytes.items ≤ limit) }
-        ensures too_long_only_past_the_limit { IsErrOf result LoadFault.TooLong → IsLonger limit (files_told self.old path.now) }
-        ensures missing_is_a_fault { (files_told self.old path.now).content ≡ missing → IsErrOf result LoadFault.Failed ⊎ IsErrOf result LoadFault.NoMemory }
-        ensures counts { IsCountedLoad result (files_told self.old path.now) (files_told self.new path.now) }
-        ensures kept { (at : List ℕ) → (files_told self.new at).content ≡ (files_told self.old at).content }
-        ensures steady { (at : List ℕ) → (files_told self.new at).is_steady ≡ (files_told self.old at).is_steady }
-        ensures later { (at : List ℕ) → (files_told self.old at).faults ≤ (files_told self.new at).faults }
+        ensures loads { Loads (files_told self.old) (files_told self.new) path.now limit result }
 
         // Loads fail at the calls that are to fail, and for a path that isn't held.
         ensures calls { self.new.calls ≡ counted self.old.calls }

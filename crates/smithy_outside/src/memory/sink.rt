@@ -1,5 +1,5 @@
 //! A sink in memory.
-ghost use Rattle.std.specs.Prelude.{◌≡◌, ◌≢◌, ◌↔◌, ◌⊎◌, ◌<◌, ◌≤◌, ◌-◌, [], min, false, length, take, vec_capacity, Contains, IsErr, IfOk, MatchResult};
+ghost use Rattle.std.specs.Prelude.{◌≡◌, ◌↔◌, ◌⊎◌, ◌<◌, ◌≤◌, ◌-◌, [], min, false, length, vec_capacity, Contains, IsErr, IfOk};
 
 use super::is_failing_call;
 use crate::outside::{Failed, Sink};
@@ -55,18 +55,14 @@ impl MemorySink {
 
 impl Sink for MemorySink {
     ghost use Rattle.smithy_outside.specs.Memory.{sink_told};
-    ghost use Rattle.smithy_outside.specs.Outside.{counted, IsCounted, Took};
+    ghost use Rattle.smithy_outside.specs.Outside.{counted, Writes, Finishes};
 
     ghost told = { sink_told };
 
     ghost holds_back = { λ _. false };
 
     fn write(&mut self, piece: &[u8]) -> Result<usize, Failed>
-        ensures bound { IfOk result (λ count. count ≤ length piece.now) }
-        ensures took { MatchResult result (λ count. Took (take count piece.now) (sink_told self.old) (sink_told self.new)) (λ _. Took [] (sink_told self.old) (sink_told self.new)) }
-        ensures some { 0 < length piece.now → result ≢ Ok 0 }
-        ensures counts { IsCounted result (sink_told self.old) (sink_told self.new) }
-        ensures later { (sink_told self.old).faults ≤ (sink_told self.new).faults }
+        ensures writes { Writes (sink_told self.old) (sink_told self.new) piece.now result }
 
         // Writes fail at the calls that are to fail, and where no room is left. The others take as much as they may.
         ensures calls { self.new.calls ≡ counted self.old.calls }
@@ -92,9 +88,7 @@ impl Sink for MemorySink {
     }
 
     fn finish(&mut self) -> Result<(), Failed>
-        ensures took { Took [] (sink_told self.old) (sink_told self.new) }
-        ensures counts { IsCounted result (sink_told self.old) (sink_told self.new) }
-        ensures later { (sink_told self.old).faults ≤ (sink_told self.new).faults }
+        ensures finishes { Finishes (sink_told self.old) (sink_told self.new) false result }
 
         // The calls that are to fail do, and no others.
         ensures calls { self.new.calls ≡ counted self.old.calls }

@@ -1,5 +1,5 @@
 //! A source in memory.
-ghost use Rattle.std.specs.Prelude.{◌≡◌, ◌↔◌, ◌<◌, ◌≤◌, ◌-◌, [], min, length, take, Contains, IsErr, IfOk, OnErr, MatchResult};
+ghost use Rattle.std.specs.Prelude.{◌≡◌, ◌↔◌, ◌<◌, ◌≤◌, ◌-◌, min, length, Contains, IsErr, IfOk, OnErr};
 
 use super::is_failing_call;
 use crate::outside::{Failed, Source};
@@ -48,16 +48,12 @@ impl MemorySource {
 
 impl Source for MemorySource {
     ghost use Rattle.smithy_outside.specs.Memory.{source_told};
-    ghost use Rattle.smithy_outside.specs.Outside.{counted, IsCounted, Gave, IsAtEnd};
+    ghost use Rattle.smithy_outside.specs.Outside.{counted, Reads};
 
     ghost told = { source_told };
 
     fn read(&mut self, into: &mut [u8]) -> Result<usize, Failed>
-        ensures bound { IfOk result (λ count. count ≤ length into.new) }
-        ensures gave { MatchResult result (λ count. Gave (take count into.new) (source_told self.old) (source_told self.new)) (λ _. Gave [] (source_told self.old) (source_told self.new)) }
-        ensures end { result ≡ Ok 0 → 0 < length into.new → IsAtEnd (source_told self.new) }
-        ensures counts { IsCounted result (source_told self.old) (source_told self.new) }
-        ensures later { (source_told self.old).faults ≤ (source_told self.new).faults }
+        ensures reads { Reads (source_told self.old) (source_told self.new) into.new result }
 
         // Reads fail at the calls that are to fail, and at no others. The others give as much as they may.
         ensures calls { self.new.calls ≡ counted self.old.calls }

@@ -1,5 +1,5 @@
 //! A sink in memory that never fails.
-ghost use Rattle.std.specs.Prelude.{◌≡◌, ◌≢◌, ◌||◌, ◌<◌, ◌≤◌, ◌-◌, ◌++◌, [], min, nat_lt, false, length, take, vec_capacity, IsOk, IfOk, MatchResult};
+ghost use Rattle.std.specs.Prelude.{◌≡◌, ◌||◌, ◌<◌, ◌≤◌, ◌-◌, ◌++◌, [], min, nat_lt, false, length, take, vec_capacity, IsOk, IfOk};
 
 use crate::outside::{Failed, Sink};
 use std::alloc::{AllocError, Global};
@@ -41,18 +41,14 @@ impl SteadySink {
 
 impl Sink for SteadySink {
     ghost use Rattle.smithy_outside.specs.Memory.{steady_sink_told};
-    ghost use Rattle.smithy_outside.specs.Outside.{IsCounted, Took};
+    ghost use Rattle.smithy_outside.specs.Outside.{Writes, Finishes};
 
     ghost told = { steady_sink_told };
 
     ghost holds_back = { λ _. false };
 
     fn write(&mut self, piece: &[u8]) -> Result<usize, Failed>
-        ensures bound { IfOk result (λ count. count ≤ length piece.now) }
-        ensures took { MatchResult result (λ count. Took (take count piece.now) (steady_sink_told self.old) (steady_sink_told self.new)) (λ _. Took [] (steady_sink_told self.old) (steady_sink_told self.new)) }
-        ensures some { 0 < length piece.now → result ≢ Ok 0 }
-        ensures counts { IsCounted result (steady_sink_told self.old) (steady_sink_told self.new) }
-        ensures later { (steady_sink_told self.old).faults ≤ (steady_sink_told self.new).faults }
+        ensures writes { Writes (steady_sink_told self.old) (steady_sink_told self.new) piece.now result }
 
         // A call takes as much as it may, and keeps what there is room for.
         ensures as_much { result ≡ Ok (min self.old.piece (length piece.now)) }
@@ -75,9 +71,7 @@ impl Sink for SteadySink {
     }
 
     fn finish(&mut self) -> Result<(), Failed>
-        ensures took { Took [] (steady_sink_told self.old) (steady_sink_told self.new) }
-        ensures counts { IsCounted result (steady_sink_told self.old) (steady_sink_told self.new) }
-        ensures later { (steady_sink_told self.old).faults ≤ (steady_sink_told self.new).faults }
+        ensures finishes { Finishes (steady_sink_told self.old) (steady_sink_told self.new) false result }
 
         // Nothing is held back, so nothing is to do.
         ensures done { IsOk result }

@@ -1,5 +1,5 @@
 //! A source in memory that never fails.
-ghost use Rattle.std.specs.Prelude.{◌≡◌, ◌<◌, ◌≤◌, ◌-◌, [], min, length, take, IfOk, MatchResult};
+ghost use Rattle.std.specs.Prelude.{◌≡◌, ◌<◌, ◌≤◌, ◌-◌, min, length};
 
 use crate::outside::{Failed, Source};
 
@@ -34,16 +34,12 @@ impl SteadySource {
 
 impl Source for SteadySource {
     ghost use Rattle.smithy_outside.specs.Memory.{steady_source_told};
-    ghost use Rattle.smithy_outside.specs.Outside.{IsCounted, Gave, IsAtEnd};
+    ghost use Rattle.smithy_outside.specs.Outside.{Reads};
 
     ghost told = { steady_source_told };
 
     fn read(&mut self, into: &mut [u8]) -> Result<usize, Failed>
-        ensures bound { IfOk result (λ count. count ≤ length into.new) }
-        ensures gave { MatchResult result (λ count. Gave (take count into.new) (steady_source_told self.old) (steady_source_told self.new)) (λ _. Gave [] (steady_source_told self.old) (steady_source_told self.new)) }
-        ensures end { result ≡ Ok 0 → 0 < length into.new → IsAtEnd (steady_source_told self.new) }
-        ensures counts { IsCounted result (steady_source_told self.old) (steady_source_told self.new) }
-        ensures later { (steady_source_told self.old).faults ≤ (steady_source_told self.new).faults }
+        ensures reads { Reads (steady_source_told self.old) (steady_source_told self.new) into.new result }
 
         // A call gives as much as it may.
         ensures as_much { result ≡ Ok (min (min (length self.old.bytes.items - self.old.at) self.old.piece) (length into.new)) }

@@ -12,8 +12,8 @@ use Rattle.smithy_commands.specs.Status.{status_code, is_answer}
 use Rattle.smithy_outside.specs.Outside.{Shown, Outside, outside, TookLine}
 use Rattle.smithy_commands.specs.ErrorLine.{line_of}
 use Rattle.smithy_commands.specs.RunAnswer.{RunAnswer}
-use Rattle.smithy_outside.specs.Os.{only_counts, words_of}
-use Rattle.smithy_commands.specs.System.{IsUnread, EndsWithLine, EndsAsRun, EndsUnread}
+use Rattle.smithy_outside.specs.Os.{only_counts, words_of, IsUnread}
+use Rattle.smithy_commands.specs.System.{EndsWithLine, EndsAsRun, EndsUnread}
 use Rattle.smithy_commands.proofs.system.run_on_system.Goals as goal
 
 -- what `env::args` answers
@@ -21,10 +21,11 @@ abbrev Arguments : Type 0
 Arguments = Result (IntoIter (String Global) Global) Error
 
 -- a run over files and streams that met no fault before
-ends_as_run : (words : List (List ℕ)) (files input out err : ℕ) (out_held err_held : Bool) (new : Outside) (code : ℕ)
-    → files ≡ 0 → input ≡ 0 → out ≡ 0 → err ≡ 0 → out_held ≡ false → err_held ≡ false
-    → RunAnswer words (outside (λ path. only_counts files) (only_counts input) (only_counts out) (only_counts err) out_held err_held) new code → EndsAsRun words code
-ends_as_run words files input out err out_held err_held new code f i o e oh eh answer = inl (new, rw (f, i, o, e, oh, eh) at answer)
+ends_as_run : (words : List (List ℕ)) (files input out err : ℕ) (out_held err_held : Bool) (new : Outside) (ran code : ℕ)
+    → files ≡ 0 → input ≡ 0 → out ≡ 0 → err ≡ 0 → out_held ≡ false → err_held ≡ false → code ≡ ran
+    → RunAnswer words (outside (λ path. only_counts files) (only_counts input) (only_counts out) (only_counts err) out_held err_held) new ran → EndsAsRun words code
+ends_as_run words files input out err out_held err_held new ran code f i o e oh eh is answer =
+    subst (EndsAsRun words) (sym is) (inl (new, rw (f, i, o, e, oh, eh) at answer))
 
 -- a line, and no run
 ends_with_line : (status : Status) (err : ℕ) (behind : Shown) (held : Bool) (code : ℕ) → is_answer status ≡ false → err ≡ 0
@@ -41,7 +42,7 @@ not_true true never = absurd (never refl)
 not_answered : (status other : Status) → status ≡ other → is_answer other ≡ false → is_answer status ≡ true → ⊥
 not_answered status other is none answer = let all = ap is_answer is in absurd (cc (all, none, answer))
 
-unread_is_no_answer : (kind : ErrorKind) (status : Status) → IsUnread kind status → is_answer status ≡ false
+unread_is_no_answer : (kind : ErrorKind) (status : Status) → IsUnread Usage OutOfMemory kind status → is_answer status ≡ false
 unread_is_no_answer kind status is = not_true (is_answer status) (λ answer.
     let other : kind ≢ kinds.OutOfMemory = λ no_memory. not_answered status OutOfMemory (is.0 no_memory) refl answer in
     not_answered status Usage (is.1 other) refl answer)
@@ -64,7 +65,7 @@ read_as_none (Ok a) status code is line =
     inr (subst (λ (s : Status). EndsWithLine s code) is (line (ap is_answer is)))
 read_as_none (Err e) status code is line = tt
 
-unread_as_none : (arguments : Arguments) (status : Status) (code : ℕ) → IfErr arguments (λ e. IsUnread (error_kind e) status)
+unread_as_none : (arguments : Arguments) (status : Status) (code : ℕ) → IfErr arguments (λ e. IsUnread Usage OutOfMemory (error_kind e) status)
     → (is_answer status ≡ false → EndsWithLine status code) → IfErr arguments (λ e. EndsUnread (error_kind e) code)
 unread_as_none (Ok a) status code is line = tt
 unread_as_none (Err e) status code is line = (status, is, line (unread_is_no_answer (error_kind e) status is))
@@ -72,14 +73,14 @@ unread_as_none (Err e) status code is line = (status, is, line (unread_is_no_ans
 pub returns : goal.returns
 returns g c =
     let words = map string_bytes c.deref.result.now in
-    let code = exit_status c.exit_code.result in
+    let code = exit_status c.from-2.result in
     let read = subst (λ (ws : List (String Global)). IfOk c.args.arguments (λ a. map string_bytes ws ≡ words_of a))
     (sym c.deref.ensures.value) c.in-Ok.ensures.read in
     record {
       read = read_with_words c.args.arguments words code read
           (ends_as_run words c.new-files.result.faults c.new-input.result.faults c.new-out.result.faults c.new-err.result.faults c.new-out.result.is_unfinished
-          c.new-err.result.is_unfinished _ code c.new-files.ensures c.new-input.ensures.faults c.new-out.ensures.faults
-          c.new-err.ensures.faults c.new-out.ensures.finished c.new-err.ensures.finished c.exit_code.ensures);
+          c.new-err.result.is_unfinished _ c.run-code.result code c.new-files.ensures c.new-input.ensures.faults c.new-out.ensures.faults
+          c.new-err.ensures.faults c.new-out.ensures.finished c.new-err.ensures.finished c.from-2.ensures c.run-code.ensures);
       unread = none_without_arguments c.args.arguments code c.in-Ok.ensures.unread;
     }
 

@@ -7,12 +7,12 @@ use Rattle.std.specs.declared.vec.IntoIter.{IntoIter}
 use Rattle.std.specs.IoError.{error_kind}
 use Rattle.std.specs.Process.{exit_status}
 use Rattle.smithy_table_commands.specs.declared.status.Status.{Status}
-use Rattle.smithy_table_commands.specs.declared.status.Status.TheVariants.{Done, OutOfMemory}
+use Rattle.smithy_table_commands.specs.declared.status.Status.TheVariants.{Done, Usage, OutOfMemory}
 use Rattle.smithy_table_commands.specs.Status.{status_code, line_of}
 use Rattle.smithy_outside.specs.Outside.{Shown, TookLine}
 use Rattle.smithy_table_commands.specs.RunAnswer.{RunAnswer}
-use Rattle.smithy_outside.specs.Os.{only_counts, words_of}
-use Rattle.smithy_table_commands.specs.System.{IsUnread, EndsWithLine, EndsAsRun, EndsUnread}
+use Rattle.smithy_outside.specs.Os.{only_counts, words_of, IsUnread}
+use Rattle.smithy_table_commands.specs.System.{EndsWithLine, EndsAsRun, EndsUnread}
 use Rattle.smithy_table_commands.proofs.system.run_on_system.Goals as goal
 
 -- what `env::args` answers
@@ -32,7 +32,7 @@ ends_with_line : (status : Status) (err : ℕ) (behind : Shown) (held : Bool) (c
 ends_with_line status err behind held code not_done e took is =
     (behind, held, subst (λ (n : ℕ). TookLine (line_of status) (only_counts n) behind held) e (took not_done), is)
 
-unread_is_not_done : (kind : ErrorKind) (status : Status) → IsUnread kind status → status ≢ Done
+unread_is_not_done : (kind : ErrorKind) (status : Status) → IsUnread Usage OutOfMemory kind status → status ≢ Done
 unread_is_not_done kind status is = λ done.
     let other : kind ≢ kinds.OutOfMemory = λ no_memory. let wanting = is.0 no_memory in absurd (cc (wanting, done)) in
     let usage = is.1 other in
@@ -56,7 +56,7 @@ read_as_none (Ok a) status code is line =
     inr (subst (λ (s : Status). EndsWithLine s code) is (line (λ done. absurd (cc (is, done)))))
 read_as_none (Err e) status code is line = tt
 
-unread_as_none : (arguments : Arguments) (status : Status) (code : ℕ) → IfErr arguments (λ e. IsUnread (error_kind e) status)
+unread_as_none : (arguments : Arguments) (status : Status) (code : ℕ) → IfErr arguments (λ e. IsUnread Usage OutOfMemory (error_kind e) status)
     → (status ≢ Done → EndsWithLine status code) → IfErr arguments (λ e. EndsUnread (error_kind e) code)
 unread_as_none (Ok a) status code is line = tt
 unread_as_none (Err e) status code is line = (status, is, line (unread_is_not_done (error_kind e) status is))

@@ -10,10 +10,10 @@ use Rattle.smithy_transcode.proofs.PoolBodies.{pool_of_input, read_stands}
 use Rattle.smithy_transcode.proofs.pool_input.read_whole.Goals as goal
 
 pub read_tree-requires-clause-sound : goal.read_tree-requires-clause-sound
-read_tree-requires-clause-sound c = pool_of_input c.args.pool.now c.args.input.now (cursor_of c.create_deserializer-source.result) c.requires.sound c.requires.input c.create_deserializer-source.ensures.fresh
+read_tree-requires-clause-sound c = pool_of_input c.args.pool.now c.args.input.now (cursor_of c.create_deserializer-source.result) c.requires.pool.sound c.requires.pool.input c.create_deserializer-source.ensures.fresh
 
 pub read_tree-requires-in-Cbor-clause-sound : goal.read_tree-requires-in-Cbor-clause-sound
-read_tree-requires-in-Cbor-clause-sound c = pool_of_input c.args.pool.now c.args.input.now (cbor_cursor_of c.create_deserializer-source-in-Cbor.result) c.requires.sound c.requires.input c.create_deserializer-source-in-Cbor.ensures.fresh
+read_tree-requires-in-Cbor-clause-sound c = pool_of_input c.args.pool.now c.args.input.now (cbor_cursor_of c.create_deserializer-source-in-Cbor.result) c.requires.pool.sound c.requires.pool.input c.create_deserializer-source-in-Cbor.ensures.fresh
 
 pub returns-in-Json-clause-read : goal.returns-in-Json-clause-read
 returns-in-Json-clause-read c =

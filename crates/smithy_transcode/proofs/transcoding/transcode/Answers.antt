@@ -14,16 +14,14 @@ returns-in-Some c =
     lacking c.args.shapes.now c.args.root.0 (wire_of c.args.from.now) c.args.input.now (wire_of c.args.to.now) (seen_in c.read_whole.new.pool c.in-Ok.value) c.in-Some.lacking c.in-Ok.ensures.read.ok
     (unfit_at_root (wire_of c.args.to.now) c.schema.result c.args.shapes.now c.args.root.0 (seen_in c.read_whole.new.pool c.in-Ok.value) c.unfit.result _ c.schema.ensures.site c.unfit.ensures.unfit c.in-Some.is)
 
-pub unfit-requires-clause-sound : goal.unfit-requires-clause-sound
-unfit-requires-clause-sound c = pool_of_itself c.read_whole.new.pool c.in-Ok.ensures.sound.0
-
-pub unfit-requires-clause-stands : goal.unfit-requires-clause-stands
-unfit-requires-clause-stands c = c.in-Ok.ensures.sound.1
-
-pub unfit-requires-clause-fits : goal.unfit-requires-clause-fits
-unfit-requires-clause-fits c =
+pub unfit-requires : goal.unfit-requires
+unfit-requires c =
     let small = spelled_is_small (wire_of c.args.from.now) c.args.shapes.now c.args.root.0 c.args.input.now (seen_in c.read_whole.new.pool c.in-Ok.value) c.in-Ok.ensures.read.ok in
-    fits_at_root c.schema.result c.args.shapes.now c.args.root.0 (seen_in c.read_whole.new.pool c.in-Ok.value) c.schema.ensures.site small.0
+    record {
+      sound = pool_of_itself c.read_whole.new.pool c.in-Ok.ensures.sound.0;
+      stands = c.in-Ok.ensures.sound.1;
+      fits = fits_at_root c.schema.result c.args.shapes.now c.args.root.0 (seen_in c.read_whole.new.pool c.in-Ok.value) c.schema.ensures.site small.0;
+    }
 
 pub write_whole-requires-clause-stored : goal.write_whole-requires-clause-stored
 write_whole-requires-clause-stored c = pool_of_itself c.read_whole.new.pool c.in-Ok.ensures.sound.0

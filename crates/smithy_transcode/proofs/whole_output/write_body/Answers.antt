@@ -5,11 +5,12 @@ use Rattle.smithy_transcode.proofs.BodiesWritten.{body_lacking, body_written, bo
 use Rattle.smithy_transcode.proofs.Transcodings.{fits_at_root, unfit_at_root}
 use Rattle.smithy_transcode.proofs.whole_output.write_body.Goals as goal
 
-pub unfit-requires-clause-sound : goal.unfit-requires-clause-sound
-unfit-requires-clause-sound c = ([], tt)
-
-pub unfit-requires-clause-fits : goal.unfit-requires-clause-fits
-unfit-requires-clause-fits c = fits_at_root c.schema.result c.args.shapes.now c.args.root.0 (view c.args.value.now) c.schema.ensures.site c.requires.fits
+pub unfit-requires : goal.unfit-requires
+unfit-requires c = record {
+  sound = ([], tt);
+  stands = tt;
+  fits = fits_at_root c.schema.result c.args.shapes.now c.args.root.0 (view c.args.value.now) c.schema.ensures.site c.requires.fits;
+}
 
 pub write_whole-requires-clause-stored : goal.write_whole-requires-clause-stored
 write_whole-requires-clause-stored c = ([], tt)

@@ -15,96 +15,138 @@ mod Structures
 mod Unions
 
 -- scalars
-pub read_tree-returns-in_err-read_boolean-in-Boolean-clause-reads : goal.read_tree-returns-in_err-read_boolean-in-Boolean-clause-reads
-read_tree-returns-in_err-read_boolean-in-Boolean-clause-reads g t c =
+pub read_tree-returns-in_err-read_boolean-in-Boolean : goal.read_tree-returns-in_err-read_boolean-in-Boolean
+read_tree-returns-in_err-read_boolean-in-Boolean g t c =
     let p = err_from_is_err_and c.from_residual.result c.from_residual.ensures.1 in
-    rw (p.1, p.2) (scalar_fails _ _ _ _ scalars.Boolean _ _ (site_of c.args.schema.now) _ _ _ (ap Some (sym c.in-Boolean.is) ∙ c.shape_type.ensures) c.requires.due c.in_err-read_boolean-in-Boolean.ensures.read)
+    rw (p.1, p.2)
+    (record {
+      same = c.read_boolean.ensures.same;
+      reads = scalar_fails _ _ _ _ scalars.Boolean _ _ (site_of c.args.schema.now) _ _ _ (ap Some (sym c.in-Boolean.is) ∙ c.shape_type.ensures) c.requires.due c.in_err-read_boolean-in-Boolean.ensures.read;
+      adds = tt;
+    })
 
-pub read_tree-returns-in_ok-read_boolean-in-Boolean-clause-reads : goal.read_tree-returns-in_ok-read_boolean-in-Boolean-clause-reads
-read_tree-returns-in_ok-read_boolean-in-Boolean-clause-reads g t c =
+pub read_tree-returns-in_ok-read_boolean-in-Boolean : goal.read_tree-returns-in_ok-read_boolean-in-Boolean
+read_tree-returns-in_ok-read_boolean-in-Boolean g t c =
     let counts = g.met.D.ShapeDeserializer.counts (g.D.ShapeDeserializer.settings c.args.source.now) in
-    scalar_made _ _ _ _ scalars.Boolean _ _ (site_of c.args.schema.now) _ _ _ _ _ counts (ap Some (sym c.in-Boolean.is) ∙ c.shape_type.ensures) c.in_ok-read_boolean-in-Boolean.ensures.read (search rules) (c.boolean.ensures.shows c.args.trees.now) tt
+    record {
+      same = c.read_boolean.ensures.same;
+      reads = scalar_made _ _ _ _ scalars.Boolean _ _ (site_of c.args.schema.now) _ _ _ _ _ counts (ap Some (sym c.in-Boolean.is) ∙ c.shape_type.ensures) c.in_ok-read_boolean-in-Boolean.ensures.read (search rules) (c.boolean.ensures.shows c.args.trees.now) tt;
+      adds = (g.P.Trees.keeps_lawfully.itself _ _ c.requires.sound, c.boolean.ensures.stands c.args.trees.now);
+    }
 
-pub read_tree-returns-in_err-read_byte-in-Byte-clause-reads : goal.read_tree-returns-in_err-read_byte-in-Byte-clause-reads
-read_tree-returns-in_err-read_byte-in-Byte-clause-reads g t c =
+pub read_tree-returns-in_err-read_byte-in-Byte : goal.read_tree-returns-in_err-read_byte-in-Byte
+read_tree-returns-in_err-read_byte-in-Byte g t c =
     let p = err_from_is_err_and c.from_residual-in_err-read_byte-in-Byte.result c.from_residual-in_err-read_byte-in-Byte.ensures.1 in
-    rw (p.1, p.2) (scalar_fails _ _ _ _ scalars.Byte _ _ (site_of c.args.schema.now) _ _ _ (ap Some (sym c.in-Byte.is) ∙ c.shape_type.ensures) c.requires.due c.in_err-read_byte-in-Byte.ensures.read)
+    rw (p.1, p.2)
+    (record {
+      same = c.read_byte.ensures.same;
+      reads = scalar_fails _ _ _ _ scalars.Byte _ _ (site_of c.args.schema.now) _ _ _ (ap Some (sym c.in-Byte.is) ∙ c.shape_type.ensures) c.requires.due c.in_err-read_byte-in-Byte.ensures.read;
+      adds = tt;
+    })
 
-pub read_tree-returns-in_ok-read_byte-in-Byte-clause-reads : goal.read_tree-returns-in_ok-read_byte-in-Byte-clause-reads
-read_tree-returns-in_ok-read_byte-in-Byte-clause-reads g t c =
+pub read_tree-returns-in_ok-read_byte-in-Byte : goal.read_tree-returns-in_ok-read_byte-in-Byte
+read_tree-returns-in_ok-read_byte-in-Byte g t c =
     let counts = g.met.D.ShapeDeserializer.counts (g.D.ShapeDeserializer.settings c.args.source.now) in
-    scalar_made _ _ _ _ scalars.Byte _ _ (site_of c.args.schema.now) _ _ _ _ _ counts (ap Some (sym c.in-Byte.is) ∙ c.shape_type.ensures) c.in_ok-read_byte-in-Byte.ensures.read (search rules) (c.whole.ensures.shows c.args.trees.now) tt
+    record {
+      same = c.read_byte.ensures.same;
+      reads = scalar_made _ _ _ _ scalars.Byte _ _ (site_of c.args.schema.now) _ _ _ _ _ counts (ap Some (sym c.in-Byte.is) ∙ c.shape_type.ensures) c.in_ok-read_byte-in-Byte.ensures.read (search rules) (c.whole.ensures.shows c.args.trees.now) tt;
+      adds = (g.P.Trees.keeps_lawfully.itself _ _ c.requires.sound, c.whole.ensures.stands c.args.trees.now);
+    }
 
-pub read_tree-returns-in_err-read_short-in-Short-clause-reads : goal.read_tree-returns-in_err-read_short-in-Short-clause-reads
-read_tree-returns-in_err-read_short-in-Short-clause-reads g t c =
+pub read_tree-returns-in_err-read_short-in-Short : goal.read_tree-returns-in_err-read_short-in-Short
+read_tree-returns-in_err-read_short-in-Short g t c =
     let p = err_from_is_err_and c.from_residual-in_err-read_short-in-Short.result c.from_residual-in_err-read_short-in-Short.ensures.1 in
-    rw (p.1, p.2) (scalar_fails _ _ _ _ scalars.Short _ _ (site_of c.args.schema.now) _ _ _ (ap Some (sym c.in-Short.is) ∙ c.shape_type.ensures) c.requires.due c.in_err-read_short-in-Short.ensures.read)
+    rw (p.1, p.2)
+    (record {
+      same = c.read_short.ensures.same;
+      reads = scalar_fails _ _ _ _ scalars.Short _ _ (site_of c.args.schema.now) _ _ _ (ap Some (sym c.in-Short.is) ∙ c.shape_type.ensures) c.requires.due c.in_err-read_short-in-Short.ensures.read;
+      adds = tt;
+    })
 
-pub read_tree-returns-in_ok-read_short-in-Short-clause-reads : goal.read_tree-returns-in_ok-read_short-in-Short-clause-reads
-read_tree-returns-in_ok-read_short-in-Short-clause-reads g t c =
+pub read_tree-returns-in_ok-read_short-in-Short : goal.read_tree-returns-in_ok-read_short-in-Short
+read_tree-returns-in_ok-read_short-in-Short g t c =
     let counts = g.met.D.ShapeDeserializer.counts (g.D.ShapeDeserializer.settings c.args.source.now) in
-    scalar_made _ _ _ _ scalars.Short _ _ (site_of c.args.schema.now) _ _ _ _ _ counts (ap Some (sym c.in-Short.is) ∙ c.shape_type.ensures) c.in_ok-read_short-in-Short.ensures.read (search rules) (c.whole-in-Short.ensures.shows c.args.trees.now) tt
+    record {
+      same = c.read_short.ensures.same;
+      reads = scalar_made _ _ _ _ scalars.Short _ _ (site_of c.args.schema.now) _ _ _ _ _ counts (ap Some (sym c.in-Short.is) ∙ c.shape_type.ensures) c.in_ok-read_short-in-Short.ensures.read (search rules) (c.whole-in-Short.ensures.shows c.args.trees.now) tt;
+      adds = (g.P.Trees.keeps_lawfully.itself _ _ c.requires.sound, c.whole-in-Short.ensures.stands c.args.trees.now);
+    }
 
-pub read_tree-returns-in_err-read_integer-in-Integer-clause-reads : goal.read_tree-returns-in_err-read_integer-in-Integer-clause-reads
-read_tree-returns-in_err-read_integer-in-Integer-clause-reads g t c =
+pub read_tree-returns-in_err-read_integer-in-Integer : goal.read_tree-returns-in_err-read_integer-in-Integer
+read_tree-returns-in_err-read_integer-in-Integer g t c =
     let p = err_from_is_err_and c.from_residual-in_err-read_integer-in-Integer.result c.from_residual-in_err-read_integer-in-Integer.ensures.1 in
-    rw (p.1, p.2) (scalar_fails _ _ _ _ scalars.Integer _ _ (site_of c.args.schema.now) _ _ _ (ap Some (sym c.in-Integer.is) ∙ c.shape_type.ensures) c.requires.due c.in_err-read_integer-in-Integer.ensures.read)
+    rw (p.1, p.2)
+    (record {
+      same = c.read_integer.ensures.same;
+      reads = scalar_fails _ _ _ _ scalars.Integer _ _ (site_of c.args.schema.now) _ _ _ (ap Some (sym c.in-Integer.is) ∙ c.shape_type.ensures) c.requires.due c.in_err-read_integer-in-Integer.ensures.read;
+      adds = tt;
+    })
 
-pub read_tree-returns-in_ok-read_integer-in-Integer-clause-reads : goal.read_tree-returns-in_ok-read_integer-in-Integer-clause-reads
-read_tree-returns-in_ok-read_integer-in-Integer-clause-reads g t c =
+pub read_tree-returns-in_ok-read_integer-in-Integer : goal.read_tree-returns-in_ok-read_integer-in-Integer
+read_tree-returns-in_ok-read_integer-in-Integer g t c =
     let counts = g.met.D.ShapeDeserializer.counts (g.D.ShapeDeserializer.settings c.args.source.now) in
-    scalar_made _ _ _ _ scalars.Integer _ _ (site_of c.args.schema.now) _ _ _ _ _ counts (ap Some (sym c.in-Integer.is) ∙ c.shape_type.ensures) c.in_ok-read_integer-in-Integer.ensures.read (search rules) (c.whole-in-Integer.ensures.shows c.args.trees.now) tt
+    record {
+      same = c.read_integer.ensures.same;
+      reads = scalar_made _ _ _ _ scalars.Integer _ _ (site_of c.args.schema.now) _ _ _ _ _ counts (ap Some (sym c.in-Integer.is) ∙ c.shape_type.ensures) c.in_ok-read_integer-in-Integer.ensures.read (search rules) (c.whole-in-Integer.ensures.shows c.args.trees.now) tt;
+      adds = (g.P.Trees.keeps_lawfully.itself _ _ c.requires.sound, c.whole-in-Integer.ensures.stands c.args.trees.now);
+    }
 
-pub read_tree-returns-in_err-read_long-in-Long-clause-reads : goal.read_tree-returns-in_err-read_long-in-Long-clause-reads
-read_tree-returns-in_err-read_long-in-Long-clause-reads g t c =
+pub read_tree-returns-in_err-read_long-in-Long : goal.read_tree-returns-in_err-read_long-in-Long
+read_tree-returns-in_err-read_long-in-Long g t c =
     let p = err_from_is_err_and c.from_residual-in_err-read_long-in-Long.result c.from_residual-in_err-read_long-in-Long.ensures.1 in
-    rw (p.1, p.2) (scalar_fails _ _ _ _ scalars.Long _ _ (site_of c.args.schema.now) _ _ _ (ap Some (sym c.in-Long.is) ∙ c.shape_type.ensures) c.requires.due c.in_err-read_long-in-Long.ensures.read)
+    rw (p.1, p.2)
+    (record {
+      same = c.read_long.ensures.same;
+      reads = scalar_fails _ _ _ _ scalars.Long _ _ (site_of c.args.schema.now) _ _ _ (ap Some (sym c.in-Long.is) ∙ c.shape_type.ensures) c.requires.due c.in_err-read_long-in-Long.ensures.read;
+      adds = tt;
+    })
 
-pub read_tree-returns-in_ok-read_long-in-Long-clause-reads : goal.read_tree-returns-in_ok-read_long-in-Long-clause-reads
-read_tree-returns-in_ok-read_long-in-Long-clause-reads g t c =
+pub read_tree-returns-in_ok-read_long-in-Long : goal.read_tree-returns-in_ok-read_long-in-Long
+read_tree-returns-in_ok-read_long-in-Long g t c =
     let counts = g.met.D.ShapeDeserializer.counts (g.D.ShapeDeserializer.settings c.args.source.now) in
-    scalar_made _ _ _ _ scalars.Long _ _ (site_of c.args.schema.now) _ _ _ _ _ counts (ap Some (sym c.in-Long.is) ∙ c.shape_type.ensures) c.in_ok-read_long-in-Long.ensures.read (search rules) (c.whole-in-Long.ensures.shows c.args.trees.now) tt
+    record {
+      same = c.read_long.ensures.same;
+      reads = scalar_made _ _ _ _ scalars.Long _ _ (site_of c.args.schema.now) _ _ _ _ _ counts (ap Some (sym c.in-Long.is) ∙ c.shape_type.ensures) c.in_ok-read_long-in-Long.ensures.read (search rules) (c.whole-in-Long.ensures.shows c.args.trees.now) tt;
+      adds = (g.P.Trees.keeps_lawfully.itself _ _ c.requires.sound, c.whole-in-Long.ensures.stands c.args.trees.now);
+    }
 
-pub read_tree-returns-in_err-take_text-in-String-clause-reads : goal.read_tree-returns-in_err-take_text-in-String-clause-reads
-read_tree-returns-in_err-take_text-in-String-clause-reads g t c =
+pub read_tree-returns-in_err-take_text-in-String : goal.read_tree-returns-in_err-take_text-in-String
+read_tree-returns-in_err-take_text-in-String g t c =
     let p = err_from_is_err_and c.from_residual-in_err-take_text-in-String.result c.from_residual-in_err-take_text-in-String.ensures.1 in
-    rw (p.1, p.2) (scalar_fails _ _ _ _ scalars.String _ _ (site_of c.args.schema.now) _ _ _ (ap Some (sym c.in-String.is) ∙ c.shape_type.ensures) c.requires.due c.in_err-take_text-in-String.ensures.read)
+    rw (p.1, p.2)
+    (record {
+      same = c.take_text.ensures.same;
+      reads = scalar_fails _ _ _ _ scalars.String _ _ (site_of c.args.schema.now) _ _ _ (ap Some (sym c.in-String.is) ∙ c.shape_type.ensures) c.requires.due c.in_err-take_text-in-String.ensures.read;
+      adds = tt;
+    })
 
-pub read_tree-returns-in_ok-take_text-in-String-clause-reads : goal.read_tree-returns-in_ok-take_text-in-String-clause-reads
-read_tree-returns-in_ok-take_text-in-String-clause-reads g t c =
+pub read_tree-returns-in_ok-take_text-in-String : goal.read_tree-returns-in_ok-take_text-in-String
+read_tree-returns-in_ok-take_text-in-String g t c =
     let counts = g.met.D.ShapeDeserializer.counts (g.D.ShapeDeserializer.settings c.args.source.now) in
-    scalar_made _ _ _ _ scalars.String _ _ (site_of c.args.schema.now) _ _ _ _ _ counts (ap Some (sym c.in-String.is) ∙ c.shape_type.ensures) c.in_ok-take_text-in-String.ensures.read (search rules) (made_shown _ _ _ _ _ _ c.text.result (c.text.ensures.ok (g.D.ShapeDeserializer.state c.args.source.now).input c.requires.sound)) c.text.ensures.err
+    record {
+      same = c.take_text.ensures.same;
+      reads = scalar_made _ _ _ _ scalars.String _ _ (site_of c.args.schema.now) _ _ _ _ _ counts (ap Some (sym c.in-String.is) ∙ c.shape_type.ensures) c.in_ok-take_text-in-String.ensures.read (search rules) (made_shown _ _ _ _ _ _ c.text.result (c.text.ensures.ok (g.D.ShapeDeserializer.state c.args.source.now).input c.requires.sound)) c.text.ensures.err;
+      adds = made_added _ _ _ _ _ _ c.text.result (c.text.ensures.ok (g.D.ShapeDeserializer.state c.args.source.now).input c.requires.sound);
+    }
 
-pub read_tree-returns-in_err-take_bytes-in-Blob-clause-reads : goal.read_tree-returns-in_err-take_bytes-in-Blob-clause-reads
-read_tree-returns-in_err-take_bytes-in-Blob-clause-reads g t c =
+pub read_tree-returns-in_err-take_bytes-in-Blob : goal.read_tree-returns-in_err-take_bytes-in-Blob
+read_tree-returns-in_err-take_bytes-in-Blob g t c =
     let p = err_from_is_err_and c.from_residual-in_err-take_bytes-in-Blob.result c.from_residual-in_err-take_bytes-in-Blob.ensures.1 in
-    rw (p.1, p.2) (scalar_fails _ _ _ _ scalars.Blob _ _ (site_of c.args.schema.now) _ _ _ (ap Some (sym c.in-Blob.is) ∙ c.shape_type.ensures) c.requires.due c.in_err-take_bytes-in-Blob.ensures.read)
+    rw (p.1, p.2)
+    (record {
+      same = c.take_bytes.ensures.same;
+      reads = scalar_fails _ _ _ _ scalars.Blob _ _ (site_of c.args.schema.now) _ _ _ (ap Some (sym c.in-Blob.is) ∙ c.shape_type.ensures) c.requires.due c.in_err-take_bytes-in-Blob.ensures.read;
+      adds = tt;
+    })
 
-pub read_tree-returns-in_ok-take_bytes-in-Blob-clause-reads : goal.read_tree-returns-in_ok-take_bytes-in-Blob-clause-reads
-read_tree-returns-in_ok-take_bytes-in-Blob-clause-reads g t c =
+pub read_tree-returns-in_ok-take_bytes-in-Blob : goal.read_tree-returns-in_ok-take_bytes-in-Blob
+read_tree-returns-in_ok-take_bytes-in-Blob g t c =
     let counts = g.met.D.ShapeDeserializer.counts (g.D.ShapeDeserializer.settings c.args.source.now) in
-    scalar_made _ _ _ _ scalars.Blob _ _ (site_of c.args.schema.now) _ _ _ _ _ counts (ap Some (sym c.in-Blob.is) ∙ c.shape_type.ensures) c.in_ok-take_bytes-in-Blob.ensures.read (search rules) (made_shown _ _ _ _ _ _ c.bytes.result (c.bytes.ensures.ok (g.D.ShapeDeserializer.state c.args.source.now).input c.requires.sound)) c.bytes.ensures.err
-
-pub read_tree-returns-in_ok-take_text-in-String-clause-adds : goal.read_tree-returns-in_ok-take_text-in-String-clause-adds
-read_tree-returns-in_ok-take_text-in-String-clause-adds g t c = made_added _ _ _ _ _ _ c.text.result (c.text.ensures.ok (g.D.ShapeDeserializer.state c.args.source.now).input c.requires.sound)
-
-pub read_tree-returns-in_ok-take_bytes-in-Blob-clause-adds : goal.read_tree-returns-in_ok-take_bytes-in-Blob-clause-adds
-read_tree-returns-in_ok-take_bytes-in-Blob-clause-adds g t c = made_added _ _ _ _ _ _ c.bytes.result (c.bytes.ensures.ok (g.D.ShapeDeserializer.state c.args.source.now).input c.requires.sound)
-
-pub read_tree-returns-in_ok-read_boolean-in-Boolean-clause-adds : goal.read_tree-returns-in_ok-read_boolean-in-Boolean-clause-adds
-read_tree-returns-in_ok-read_boolean-in-Boolean-clause-adds g t c = (g.P.Trees.keeps_lawfully.itself _ _ c.requires.sound, c.boolean.ensures.stands c.args.trees.now)
-
-pub read_tree-returns-in_ok-read_byte-in-Byte-clause-adds : goal.read_tree-returns-in_ok-read_byte-in-Byte-clause-adds
-read_tree-returns-in_ok-read_byte-in-Byte-clause-adds g t c = (g.P.Trees.keeps_lawfully.itself _ _ c.requires.sound, c.whole.ensures.stands c.args.trees.now)
-
-pub read_tree-returns-in_ok-read_short-in-Short-clause-adds : goal.read_tree-returns-in_ok-read_short-in-Short-clause-adds
-read_tree-returns-in_ok-read_short-in-Short-clause-adds g t c = (g.P.Trees.keeps_lawfully.itself _ _ c.requires.sound, c.whole-in-Short.ensures.stands c.args.trees.now)
-
-pub read_tree-returns-in_ok-read_integer-in-Integer-clause-adds : goal.read_tree-returns-in_ok-read_integer-in-Integer-clause-adds
-read_tree-returns-in_ok-read_integer-in-Integer-clause-adds g t c = (g.P.Trees.keeps_lawfully.itself _ _ c.requires.sound, c.whole-in-Integer.ensures.stands c.args.trees.now)
-
-pub read_tree-returns-in_ok-read_long-in-Long-clause-adds : goal.read_tree-returns-in_ok-read_long-in-Long-clause-adds
-read_tree-returns-in_ok-read_long-in-Long-clause-adds g t c = (g.P.Trees.keeps_lawfully.itself _ _ c.requires.sound, c.whole-in-Long.ensures.stands c.args.trees.now)
+    record {
+      same = c.take_bytes.ensures.same;
+      reads = scalar_made _ _ _ _ scalars.Blob _ _ (site_of c.args.schema.now) _ _ _ _ _ counts (ap Some (sym c.in-Blob.is) ∙ c.shape_type.ensures) c.in_ok-take_bytes-in-Blob.ensures.read (search rules) (made_shown _ _ _ _ _ _ c.bytes.result (c.bytes.ensures.ok (g.D.ShapeDeserializer.state c.args.source.now).input c.requires.sound)) c.bytes.ensures.err;
+      adds = made_added _ _ _ _ _ _ c.bytes.result (c.bytes.ensures.ok (g.D.ShapeDeserializer.state c.args.source.now).input c.requires.sound);
+    }
 
 pub read_tree-text-requires : goal.read_tree-text-requires
 read_tree-text-requires g t c = record { stands = (_, c.requires.sound, c.in_ok-take_text-in-String.ensures.placed) }
@@ -113,35 +155,32 @@ pub read_tree-bytes-requires : goal.read_tree-bytes-requires
 read_tree-bytes-requires g t c = record { stands = (_, c.requires.sound, c.in_ok-take_bytes-in-Blob.ensures.placed) }
 
 -- structures
-pub read_structure-returns-in_err-open_struct-clause-reads : goal.read_structure-returns-in_err-open_struct-clause-reads
-read_structure-returns-in_err-open_struct-clause-reads = structures.read_structure-returns-in_err-open_struct-clause-reads
+pub read_structure-returns-in_err-open_struct : goal.read_structure-returns-in_err-open_struct
+read_structure-returns-in_err-open_struct = structures.read_structure-returns-in_err-open_struct
 
 pub read_structure-loop-members-init : goal.read_structure-loop-members-init
 read_structure-loop-members-init = structures.read_structure-loop-members-init
 
-pub read_structure-returns-in_err-member-clause-reads : goal.read_structure-returns-in_err-member-clause-reads
-read_structure-returns-in_err-member-clause-reads = structures.read_structure-returns-in_err-member-clause-reads
+pub read_structure-returns-in_err-member : goal.read_structure-returns-in_err-member
+read_structure-returns-in_err-member = structures.read_structure-returns-in_err-member
 
-pub read_structure-returns-in_err-value-in-Member-clause-reads : goal.read_structure-returns-in_err-value-in-Member-clause-reads
-read_structure-returns-in_err-value-in-Member-clause-reads = structures.read_structure-returns-in_err-value-in-Member-clause-reads
+pub read_structure-returns-in_err-value-in-Member : goal.read_structure-returns-in_err-value-in-Member
+read_structure-returns-in_err-value-in-Member = structures.read_structure-returns-in_err-value-in-Member
 
-pub read_structure-returns-in_err-set_member-in-Member-clause-reads : goal.read_structure-returns-in_err-set_member-in-Member-clause-reads
-read_structure-returns-in_err-set_member-in-Member-clause-reads = structures.read_structure-returns-in_err-set_member-in-Member-clause-reads
+pub read_structure-returns-in_err-set_member-in-Member : goal.read_structure-returns-in_err-set_member-in-Member
+read_structure-returns-in_err-set_member-in-Member = structures.read_structure-returns-in_err-set_member-in-Member
 
 pub read_structure-loop-members-preserved-in-Continue-branch-5 : goal.read_structure-loop-members-preserved-in-Continue-branch-5
 read_structure-loop-members-preserved-in-Continue-branch-5 = structures.read_structure-loop-members-preserved-in-Continue-branch-5
 
-pub read_structure-returns-in_err-skip_value-in-Unknown-clause-reads : goal.read_structure-returns-in_err-skip_value-in-Unknown-clause-reads
-read_structure-returns-in_err-skip_value-in-Unknown-clause-reads = structures.read_structure-returns-in_err-skip_value-in-Unknown-clause-reads
+pub read_structure-returns-in_err-skip_value-in-Unknown : goal.read_structure-returns-in_err-skip_value-in-Unknown
+read_structure-returns-in_err-skip_value-in-Unknown = structures.read_structure-returns-in_err-skip_value-in-Unknown
 
 pub read_structure-loop-members-preserved : goal.read_structure-loop-members-preserved
 read_structure-loop-members-preserved = structures.read_structure-loop-members-preserved
 
-pub read_structure-returns-in-End-clause-reads : goal.read_structure-returns-in-End-clause-reads
-read_structure-returns-in-End-clause-reads = structures.read_structure-returns-in-End-clause-reads
-
-pub read_structure-returns-in-End-clause-adds : goal.read_structure-returns-in-End-clause-adds
-read_structure-returns-in-End-clause-adds = structures.read_structure-returns-in-End-clause-adds
+pub read_structure-returns-in-End : goal.read_structure-returns-in-End
+read_structure-returns-in-End = structures.read_structure-returns-in-End
 
 pub read_structure-loop-members-smaller-in-Continue-branch-5 : goal.read_structure-loop-members-smaller-in-Continue-branch-5
 read_structure-loop-members-smaller-in-Continue-branch-5 = structures.read_structure-loop-members-smaller-in-Continue-branch-5
@@ -171,29 +210,26 @@ pub read_structure-structure-requires-clause-begun : goal.read_structure-structu
 read_structure-structure-requires-clause-begun = structures.read_structure-structure-requires-clause-begun
 
 -- unions
-pub read_union-returns-in_err-open_struct-clause-reads : goal.read_union-returns-in_err-open_struct-clause-reads
-read_union-returns-in_err-open_struct-clause-reads = unions.read_union-returns-in_err-open_struct-clause-reads
+pub read_union-returns-in_err-open_struct : goal.read_union-returns-in_err-open_struct
+read_union-returns-in_err-open_struct = unions.read_union-returns-in_err-open_struct
 
-pub read_union-returns-in_err-member-clause-reads : goal.read_union-returns-in_err-member-clause-reads
-read_union-returns-in_err-member-clause-reads = unions.read_union-returns-in_err-member-clause-reads
+pub read_union-returns-in_err-member : goal.read_union-returns-in_err-member
+read_union-returns-in_err-member = unions.read_union-returns-in_err-member
 
 pub read_union-returns-in_default : goal.read_union-returns-in_default
 read_union-returns-in_default = unions.read_union-returns-in_default
 
-pub read_union-returns-in_err-value-clause-reads : goal.read_union-returns-in_err-value-clause-reads
-read_union-returns-in_err-value-clause-reads = unions.read_union-returns-in_err-value-clause-reads
+pub read_union-returns-in_err-value : goal.read_union-returns-in_err-value
+read_union-returns-in_err-value = unions.read_union-returns-in_err-value
 
-pub read_union-returns-in_err-next_member-clause-reads : goal.read_union-returns-in_err-next_member-clause-reads
-read_union-returns-in_err-next_member-clause-reads = unions.read_union-returns-in_err-next_member-clause-reads
+pub read_union-returns-in_err-next_member : goal.read_union-returns-in_err-next_member
+read_union-returns-in_err-next_member = unions.read_union-returns-in_err-next_member
 
 pub read_union-returns-in_default-2 : goal.read_union-returns-in_default-2
 read_union-returns-in_default-2 = unions.read_union-returns-in_default-2
 
-pub read_union-returns-clause-reads : goal.read_union-returns-clause-reads
-read_union-returns-clause-reads = unions.read_union-returns-clause-reads
-
-pub read_union-returns-clause-adds : goal.read_union-returns-clause-adds
-read_union-returns-clause-adds = unions.read_union-returns-clause-adds
+pub read_union-returns : goal.read_union-returns
+read_union-returns = unions.read_union-returns
 
 pub read_union-read_tree-requires : goal.read_union-read_tree-requires
 read_union-read_tree-requires = unions.read_union-read_tree-requires
@@ -205,38 +241,35 @@ pub read_union-union-requires-clause-stands : goal.read_union-union-requires-cla
 read_union-union-requires-clause-stands = unions.read_union-union-requires-clause-stands
 
 -- lists
-pub read_list-returns-in_err-open_list-clause-reads : goal.read_list-returns-in_err-open_list-clause-reads
-read_list-returns-in_err-open_list-clause-reads = lists.read_list-returns-in_err-open_list-clause-reads
+pub read_list-returns-in_err-open_list : goal.read_list-returns-in_err-open_list
+read_list-returns-in_err-open_list = lists.read_list-returns-in_err-open_list
 
 pub read_list-loop-elements-init : goal.read_list-loop-elements-init
 read_list-loop-elements-init = lists.read_list-loop-elements-init
 
-pub read_list-returns-in_err-next_element-clause-reads : goal.read_list-returns-in_err-next_element-clause-reads
-read_list-returns-in_err-next_element-clause-reads = lists.read_list-returns-in_err-next_element-clause-reads
+pub read_list-returns-in_err-next_element : goal.read_list-returns-in_err-next_element
+read_list-returns-in_err-next_element = lists.read_list-returns-in_err-next_element
 
-pub read_list-returns-in_err-read_null-clause-reads : goal.read_list-returns-in_err-read_null-clause-reads
-read_list-returns-in_err-read_null-clause-reads = lists.read_list-returns-in_err-read_null-clause-reads
+pub read_list-returns-in_err-read_null : goal.read_list-returns-in_err-read_null
+read_list-returns-in_err-read_null = lists.read_list-returns-in_err-read_null
 
-pub read_list-returns-in_err-push_element-clause-reads : goal.read_list-returns-in_err-push_element-clause-reads
-read_list-returns-in_err-push_element-clause-reads = lists.read_list-returns-in_err-push_element-clause-reads
+pub read_list-returns-in_err-push_element : goal.read_list-returns-in_err-push_element
+read_list-returns-in_err-push_element = lists.read_list-returns-in_err-push_element
 
 pub read_list-loop-elements-preserved-then-is_null : goal.read_list-loop-elements-preserved-then-is_null
 read_list-loop-elements-preserved-then-is_null = lists.read_list-loop-elements-preserved-then-is_null
 
-pub read_list-returns-in_err-item-clause-reads : goal.read_list-returns-in_err-item-clause-reads
-read_list-returns-in_err-item-clause-reads = lists.read_list-returns-in_err-item-clause-reads
+pub read_list-returns-in_err-item : goal.read_list-returns-in_err-item
+read_list-returns-in_err-item = lists.read_list-returns-in_err-item
 
-pub read_list-returns-in_err-push_element-2-clause-reads : goal.read_list-returns-in_err-push_element-2-clause-reads
-read_list-returns-in_err-push_element-2-clause-reads = lists.read_list-returns-in_err-push_element-2-clause-reads
+pub read_list-returns-in_err-push_element-2 : goal.read_list-returns-in_err-push_element-2
+read_list-returns-in_err-push_element-2 = lists.read_list-returns-in_err-push_element-2
 
 pub read_list-loop-elements-preserved : goal.read_list-loop-elements-preserved
 read_list-loop-elements-preserved = lists.read_list-loop-elements-preserved
 
-pub read_list-returns-clause-reads : goal.read_list-returns-clause-reads
-read_list-returns-clause-reads = lists.read_list-returns-clause-reads
-
-pub read_list-returns-clause-adds : goal.read_list-returns-clause-adds
-read_list-returns-clause-adds = lists.read_list-returns-clause-adds
+pub read_list-returns : goal.read_list-returns
+read_list-returns = lists.read_list-returns
 
 pub read_list-loop-elements-smaller-then-is_null : goal.read_list-loop-elements-smaller-then-is_null
 read_list-loop-elements-smaller-then-is_null = lists.read_list-loop-elements-smaller-then-is_null
@@ -275,38 +308,35 @@ pub read_list-list-requires-clause-begun : goal.read_list-list-requires-clause-b
 read_list-list-requires-clause-begun = lists.read_list-list-requires-clause-begun
 
 -- maps
-pub read_map-returns-in_err-open_map-clause-reads : goal.read_map-returns-in_err-open_map-clause-reads
-read_map-returns-in_err-open_map-clause-reads = maps.read_map-returns-in_err-open_map-clause-reads
+pub read_map-returns-in_err-open_map : goal.read_map-returns-in_err-open_map
+read_map-returns-in_err-open_map = maps.read_map-returns-in_err-open_map
 
 pub read_map-loop-entries-init : goal.read_map-loop-entries-init
 read_map-loop-entries-init = maps.read_map-loop-entries-init
 
-pub read_map-returns-in_err-key-clause-reads : goal.read_map-returns-in_err-key-clause-reads
-read_map-returns-in_err-key-clause-reads = maps.read_map-returns-in_err-key-clause-reads
+pub read_map-returns-in_err-key : goal.read_map-returns-in_err-key
+read_map-returns-in_err-key = maps.read_map-returns-in_err-key
 
-pub read_map-returns-in_err-read_null-clause-reads : goal.read_map-returns-in_err-read_null-clause-reads
-read_map-returns-in_err-read_null-clause-reads = maps.read_map-returns-in_err-read_null-clause-reads
+pub read_map-returns-in_err-read_null : goal.read_map-returns-in_err-read_null
+read_map-returns-in_err-read_null = maps.read_map-returns-in_err-read_null
 
-pub read_map-returns-in_err-set_entry-clause-reads : goal.read_map-returns-in_err-set_entry-clause-reads
-read_map-returns-in_err-set_entry-clause-reads = maps.read_map-returns-in_err-set_entry-clause-reads
+pub read_map-returns-in_err-set_entry : goal.read_map-returns-in_err-set_entry
+read_map-returns-in_err-set_entry = maps.read_map-returns-in_err-set_entry
 
 pub read_map-loop-entries-preserved-then-is_null : goal.read_map-loop-entries-preserved-then-is_null
 read_map-loop-entries-preserved-then-is_null = maps.read_map-loop-entries-preserved-then-is_null
 
-pub read_map-returns-in_err-value-clause-reads : goal.read_map-returns-in_err-value-clause-reads
-read_map-returns-in_err-value-clause-reads = maps.read_map-returns-in_err-value-clause-reads
+pub read_map-returns-in_err-value : goal.read_map-returns-in_err-value
+read_map-returns-in_err-value = maps.read_map-returns-in_err-value
 
-pub read_map-returns-in_err-set_entry-2-clause-reads : goal.read_map-returns-in_err-set_entry-2-clause-reads
-read_map-returns-in_err-set_entry-2-clause-reads = maps.read_map-returns-in_err-set_entry-2-clause-reads
+pub read_map-returns-in_err-set_entry-2 : goal.read_map-returns-in_err-set_entry-2
+read_map-returns-in_err-set_entry-2 = maps.read_map-returns-in_err-set_entry-2
 
 pub read_map-loop-entries-preserved : goal.read_map-loop-entries-preserved
 read_map-loop-entries-preserved = maps.read_map-loop-entries-preserved
 
-pub read_map-returns-clause-reads : goal.read_map-returns-clause-reads
-read_map-returns-clause-reads = maps.read_map-returns-clause-reads
-
-pub read_map-returns-clause-adds : goal.read_map-returns-clause-adds
-read_map-returns-clause-adds = maps.read_map-returns-clause-adds
+pub read_map-returns : goal.read_map-returns
+read_map-returns = maps.read_map-returns
 
 pub read_map-loop-entries-smaller-then-is_null : goal.read_map-loop-entries-smaller-then-is_null
 read_map-loop-entries-smaller-then-is_null = maps.read_map-loop-entries-smaller-then-is_null

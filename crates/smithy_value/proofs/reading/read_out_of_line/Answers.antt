@@ -6,57 +6,81 @@ use Rattle.smithy_value.proofs.Made.{made_shown, made_added}
 use Rattle.smithy_value.proofs.ReadAnswers.{scalar_fails, scalar_made, document_fails, document_made}
 use Rattle.smithy_value.proofs.reading.read_out_of_line.Goals as goal
 
-pub returns-in_err-read_big_integer-in-BigInteger-clause-reads : goal.returns-in_err-read_big_integer-in-BigInteger-clause-reads
-returns-in_err-read_big_integer-in-BigInteger-clause-reads g c =
+pub returns-in_err-read_big_integer-in-BigInteger : goal.returns-in_err-read_big_integer-in-BigInteger
+returns-in_err-read_big_integer-in-BigInteger g c =
     let p = err_from_is_err_and c.from_residual.result c.from_residual.ensures.1 in
-    rw (p.1, p.2) (scalar_fails _ _ _ _ scalars.BigInteger _ _ (site_of c.args.schema.now) _ _ _ (ap Some (sym c.in-BigInteger.is) ∙ c.shape_type.ensures) c.requires.due c.in_err-read_big_integer-in-BigInteger.ensures.read)
+    rw (p.1, p.2)
+    (record {
+      same = c.read_big_integer.ensures.same;
+      reads = scalar_fails _ _ _ _ scalars.BigInteger _ _ (site_of c.args.schema.now) _ _ _ (ap Some (sym c.in-BigInteger.is) ∙ c.shape_type.ensures) c.requires.due c.in_err-read_big_integer-in-BigInteger.ensures.read;
+      adds = tt;
+    })
 
-pub returns-in_err-read_big_decimal-in-BigDecimal-clause-reads : goal.returns-in_err-read_big_decimal-in-BigDecimal-clause-reads
-returns-in_err-read_big_decimal-in-BigDecimal-clause-reads g c =
+pub returns-in_err-read_big_decimal-in-BigDecimal : goal.returns-in_err-read_big_decimal-in-BigDecimal
+returns-in_err-read_big_decimal-in-BigDecimal g c =
     let p = err_from_is_err_and c.from_residual-in_err-read_big_decimal-in-BigDecimal.result c.from_residual-in_err-read_big_decimal-in-BigDecimal.ensures.1 in
-    rw (p.1, p.2) (scalar_fails _ _ _ _ scalars.BigDecimal _ _ (site_of c.args.schema.now) _ _ _ (ap Some (sym c.in-BigDecimal.is) ∙ c.shape_type.ensures) c.requires.due c.in_err-read_big_decimal-in-BigDecimal.ensures.read)
+    rw (p.1, p.2)
+    (record {
+      same = c.read_big_decimal.ensures.same;
+      reads = scalar_fails _ _ _ _ scalars.BigDecimal _ _ (site_of c.args.schema.now) _ _ _ (ap Some (sym c.in-BigDecimal.is) ∙ c.shape_type.ensures) c.requires.due c.in_err-read_big_decimal-in-BigDecimal.ensures.read;
+      adds = tt;
+    })
 
-pub returns-in_err-read_timestamp-in-Timestamp-clause-reads : goal.returns-in_err-read_timestamp-in-Timestamp-clause-reads
-returns-in_err-read_timestamp-in-Timestamp-clause-reads g c =
+pub returns-in_err-read_timestamp-in-Timestamp : goal.returns-in_err-read_timestamp-in-Timestamp
+returns-in_err-read_timestamp-in-Timestamp g c =
     let p = err_from_is_err_and c.from_residual-in_err-read_timestamp-in-Timestamp.result c.from_residual-in_err-read_timestamp-in-Timestamp.ensures.1 in
-    rw (p.1, p.2) (scalar_fails _ _ _ _ scalars.Timestamp _ _ (site_of c.args.schema.now) _ _ _ (ap Some (sym c.in-Timestamp.is) ∙ c.shape_type.ensures) c.requires.due c.in_err-read_timestamp-in-Timestamp.ensures.read)
+    rw (p.1, p.2)
+    (record {
+      same = c.read_timestamp.ensures.same;
+      reads = scalar_fails _ _ _ _ scalars.Timestamp _ _ (site_of c.args.schema.now) _ _ _ (ap Some (sym c.in-Timestamp.is) ∙ c.shape_type.ensures) c.requires.due c.in_err-read_timestamp-in-Timestamp.ensures.read;
+      adds = tt;
+    })
 
-pub returns-in_err-read_document-in-Document-clause-reads : goal.returns-in_err-read_document-in-Document-clause-reads
-returns-in_err-read_document-in-Document-clause-reads g c =
+pub returns-in_err-read_document-in-Document : goal.returns-in_err-read_document-in-Document
+returns-in_err-read_document-in-Document g c =
     let p = err_from_is_err_and c.from_residual-in_err-read_document-in-Document.result c.from_residual-in_err-read_document-in-Document.ensures.1 in
-    rw (p.1, p.2) (document_fails _ _ _ _ _ (site_of c.args.schema.now) _ _ _ (ap Some (sym c.in-Document.is) ∙ c.shape_type.ensures) c.requires.due c.in_err-read_document-in-Document.ensures.read)
+    rw (p.1, p.2)
+    (record {
+      same = c.read_document.ensures.same;
+      reads = document_fails _ _ _ _ _ (site_of c.args.schema.now) _ _ _ (ap Some (sym c.in-Document.is) ∙ c.shape_type.ensures) c.requires.due c.in_err-read_document-in-Document.ensures.read;
+      adds = tt;
+    })
 
-pub returns-in-Ok-clause-reads : goal.returns-in-Ok-clause-reads
-returns-in-Ok-clause-reads g c =
+pub returns-in-Ok : goal.returns-in-Ok
+returns-in-Ok g c =
     let counts = g.met.D.ShapeDeserializer.counts (g.D.ShapeDeserializer.settings c.args.source.now) in
-    scalar_made _ _ _ _ scalars.BigInteger _ _ (site_of c.args.schema.now) _ _ _ _ _ counts (ap Some (sym c.in-BigInteger.is) ∙ c.shape_type.ensures) c.in_ok-read_big_integer-in-BigInteger.ensures.read (search rules) (made_shown _ _ _ _ _ _ c.big_integer.result c.big_integer.ensures.ok) c.big_integer.ensures.err
+    record {
+      same = c.read_big_integer.ensures.same;
+      reads = scalar_made _ _ _ _ scalars.BigInteger _ _ (site_of c.args.schema.now) _ _ _ _ _ counts (ap Some (sym c.in-BigInteger.is) ∙ c.shape_type.ensures) c.in_ok-read_big_integer-in-BigInteger.ensures.read (search rules) (made_shown _ _ _ _ _ _ c.big_integer.result c.big_integer.ensures.ok) c.big_integer.ensures.err;
+      adds = made_added _ _ _ _ _ _ c.big_integer.result c.big_integer.ensures.ok;
+    }
 
-pub returns-in-Ok-to_parts-clause-reads : goal.returns-in-Ok-to_parts-clause-reads
-returns-in-Ok-to_parts-clause-reads g c =
+pub returns-in-Ok-to_parts : goal.returns-in-Ok-to_parts
+returns-in-Ok-to_parts g c =
     let counts = g.met.D.ShapeDeserializer.counts (g.D.ShapeDeserializer.settings c.args.source.now) in
-    scalar_made _ _ _ _ scalars.BigDecimal _ _ (site_of c.args.schema.now) _ _ _ _ _ counts (ap Some (sym c.in-BigDecimal.is) ∙ c.shape_type.ensures) c.in_ok-read_big_decimal-in-BigDecimal.ensures.read (search rules) (made_shown _ _ _ _ _ _ c.decimal.result c.decimal.ensures.ok) c.decimal.ensures.err
+    record {
+      same = c.read_big_decimal.ensures.same;
+      reads = scalar_made _ _ _ _ scalars.BigDecimal _ _ (site_of c.args.schema.now) _ _ _ _ _ counts (ap Some (sym c.in-BigDecimal.is) ∙ c.shape_type.ensures) c.in_ok-read_big_decimal-in-BigDecimal.ensures.read (search rules) (made_shown _ _ _ _ _ _ c.decimal.result c.decimal.ensures.ok) c.decimal.ensures.err;
+      adds = made_added _ _ _ _ _ _ c.decimal.result c.decimal.ensures.ok;
+    }
 
-pub returns-in_ok-read_timestamp-in-Timestamp-clause-reads : goal.returns-in_ok-read_timestamp-in-Timestamp-clause-reads
-returns-in_ok-read_timestamp-in-Timestamp-clause-reads g c =
+pub returns-in_ok-read_timestamp-in-Timestamp : goal.returns-in_ok-read_timestamp-in-Timestamp
+returns-in_ok-read_timestamp-in-Timestamp g c =
     let counts = g.met.D.ShapeDeserializer.counts (g.D.ShapeDeserializer.settings c.args.source.now) in
-    scalar_made _ _ _ _ scalars.Timestamp _ _ (site_of c.args.schema.now) _ _ _ _ _ counts (ap Some (sym c.in-Timestamp.is) ∙ c.shape_type.ensures) c.in_ok-read_timestamp-in-Timestamp.ensures.read (search rules) (c.timestamp.ensures.shows c.args.trees.now) tt
+    record {
+      same = c.read_timestamp.ensures.same;
+      reads = scalar_made _ _ _ _ scalars.Timestamp _ _ (site_of c.args.schema.now) _ _ _ _ _ counts (ap Some (sym c.in-Timestamp.is) ∙ c.shape_type.ensures) c.in_ok-read_timestamp-in-Timestamp.ensures.read (search rules) (c.timestamp.ensures.shows c.args.trees.now) tt;
+      adds = (g.P.Trees.keeps_lawfully.itself _ _ c.requires.sound, c.timestamp.ensures.stands c.args.trees.now);
+    }
 
-pub returns-in_ok-read_document-in-Document-clause-reads : goal.returns-in_ok-read_document-in-Document-clause-reads
-returns-in_ok-read_document-in-Document-clause-reads g c =
+pub returns-in_ok-read_document-in-Document : goal.returns-in_ok-read_document-in-Document
+returns-in_ok-read_document-in-Document g c =
     let counts = g.met.D.ShapeDeserializer.counts (g.D.ShapeDeserializer.settings c.args.source.now) in
-    document_made _ _ _ _ _ (site_of c.args.schema.now) _ _ _ _ counts (ap Some (sym c.in-Document.is) ∙ c.shape_type.ensures) c.in_ok-read_document-in-Document.ensures.read (made_shown _ _ _ _ _ _ c.document.result c.document.ensures.ok) c.document.ensures.err
-
-pub returns-in-Ok-clause-adds : goal.returns-in-Ok-clause-adds
-returns-in-Ok-clause-adds g c = made_added _ _ _ _ _ _ c.big_integer.result c.big_integer.ensures.ok
-
-pub returns-in-Ok-to_parts-clause-adds : goal.returns-in-Ok-to_parts-clause-adds
-returns-in-Ok-to_parts-clause-adds g c = made_added _ _ _ _ _ _ c.decimal.result c.decimal.ensures.ok
-
-pub returns-in_ok-read_timestamp-in-Timestamp-clause-adds : goal.returns-in_ok-read_timestamp-in-Timestamp-clause-adds
-returns-in_ok-read_timestamp-in-Timestamp-clause-adds g c = (g.P.Trees.keeps_lawfully.itself _ _ c.requires.sound, c.timestamp.ensures.stands c.args.trees.now)
-
-pub returns-in_ok-read_document-in-Document-clause-adds : goal.returns-in_ok-read_document-in-Document-clause-adds
-returns-in_ok-read_document-in-Document-clause-adds g c = made_added _ _ _ _ _ _ c.document.result c.document.ensures.ok
+    record {
+      same = c.read_document.ensures.same;
+      reads = document_made _ _ _ _ _ (site_of c.args.schema.now) _ _ _ _ counts (ap Some (sym c.in-Document.is) ∙ c.shape_type.ensures) c.in_ok-read_document-in-Document.ensures.read (made_shown _ _ _ _ _ _ c.document.result c.document.ensures.ok) c.document.ensures.err;
+      adds = made_added _ _ _ _ _ _ c.document.result c.document.ensures.ok;
+    }
 
 pub big_integer-requires : goal.big_integer-requires
 big_integer-requires g c = record { sound = (_, c.requires.sound) }

@@ -1,4 +1,6 @@
+use Rattle.std.proofs.lemmas.Result.{IfOk-weaker}
 use Rattle.smithy_tree.specs.Order.{position_cmp}
+use Rattle.smithy_tree.specs.Seen.{Closes, ClosesMembers}
 use Rattle.smithy_tree.proofs.Closing.{begins_still, closes_members}
 use Rattle.smithy_tree.proofs.pool.Pool.close_members.Goals as goal
 
@@ -6,4 +8,10 @@ pub close-requires-clause-begins : goal.close-requires-clause-begins
 close-requires-clause-begins c = begins_still c.args.self.now c.arrange.new.self position_cmp c.args.begin c.requires.begins c.in_ok-arrange.ensures.ok
 
 pub returns : goal.returns
-returns c = record { ok = closes_members c.args.self.now c.arrange.new.self c.close.new.self c.args.begin c.in_ok-at.at c.in_ok-at.count c.requires.begins c.in_ok-arrange.ensures.ok c.in_ok-at.ensures.ok }
+returns c =
+    let p = c.args.self.now in
+    let q = c.close.new.self in
+    record {
+      ok = IfOk-weaker c.close.result (λ r. Closes c.arrange.new.self q c.args.begin r.0 r.1) (λ r. ClosesMembers p q c.args.begin r.0 r.1)
+          (λ r closed. closes_members p c.arrange.new.self q c.args.begin r.0 r.1 c.requires.begins c.in_ok-arrange.ensures.ok closed) c.close.ensures.ok;
+    }

@@ -14,14 +14,18 @@ use Rattle.smithy_value.proofs.reading.+read.Goals as goal
 use Rattle.smithy_value.proofs.reading.+read.Goals.{read_list-else-sparse-via-then-sparse+else-is_null, read_list-else-sparse-via-else-sparse}
 
 -- the list can not be entered
-pub read_list-returns-in_err-open_list-clause-reads : goal.read_list-returns-in_err-open_list-clause-reads
-read_list-returns-in_err-open_list-clause-reads g t c =
+pub read_list-returns-in_err-open_list : goal.read_list-returns-in_err-open_list
+read_list-returns-in_err-open_list g t c =
     let d = g.met.D.ShapeDeserializer in
     let s0 = g.D.ShapeDeserializer.settings c.args.source.now in
     let told = c.in_err-open_list.ensures.opens in
     let p = err_from_is_err_and c.from_residual.result c.from_residual.ensures.1 in
     rw (p.1, p.2)
-    (open_fails _ _ _ _ _ (site_of c.args.schema.now) _ _ _ (d.lawful s0) (d.lifted_lawful s0) (list_contains _ c.requires.place) c.requires.due told.conduct told.narrow told.told told.refused told.none_without_limits told.deepest)
+    (record {
+      same = c.open_list.ensures.same;
+      reads = open_fails _ _ _ _ _ (site_of c.args.schema.now) _ _ _ (d.lawful s0) (d.lifted_lawful s0) (list_contains _ c.requires.place) c.requires.due told.conduct told.narrow told.told told.refused told.none_without_limits told.deepest;
+      adds = tt;
+    })
 
 -- it was entered
 pub read_list-loop-elements-init : goal.read_list-loop-elements-init
@@ -37,8 +41,8 @@ read_list-loop-elements-init g t c =
     }
 
 -- it can not go on
-pub read_list-returns-in_err-next_element-clause-reads : goal.read_list-returns-in_err-next_element-clause-reads
-read_list-returns-in_err-next_element-clause-reads g t c =
+pub read_list-returns-in_err-next_element : goal.read_list-returns-in_err-next_element
+read_list-returns-in_err-next_element g t c =
     let d = g.met.D.ShapeDeserializer in
     let s0 = g.D.ShapeDeserializer.settings c.args.source.now in
     let laws = obeyed _ _ _ (d.lawful s0) (d.lifted_lawful s0) (d.above s0) (d.counts s0) in
@@ -48,13 +52,17 @@ read_list-returns-in_err-next_element-clause-reads g t c =
     let told = c.in_err-next_element.ensures.goes_on in
     let p = err_from_is_err_and c.from_residual-in_err-next_element.result c.from_residual-in_err-next_element.ensures.1 in
     rw (p.1, p.2)
-    (goes_no_further _ _ _ _ laws _ outer _ _ _ _ _ _ half told.conduct told.narrow (λ is. absurd (told.shallow is)) (λ is. absurd (told.shallow is))
-    (λ fault due. rw same at (told.refused fault due c.args.schema.now.shapes.now c.args.schema.now.place c.requires.place))
-    (λ strict invalid due. rw same at (told.none_without_limits (rw same strict) invalid due c.args.schema.now.shapes.now c.args.schema.now.place c.requires.place)))
+    (record {
+      same = c.next_element.ensures.same ∙ same;
+      reads = goes_no_further _ _ _ _ laws _ outer _ _ _ _ _ _ half told.conduct told.narrow (λ is. absurd (told.shallow is)) (λ is. absurd (told.shallow is))
+          (λ fault due. rw same at (told.refused fault due c.args.schema.now.shapes.now c.args.schema.now.place c.requires.place))
+          (λ strict invalid due. rw same at (told.none_without_limits (rw same strict) invalid due c.args.schema.now.shapes.now c.args.schema.now.place c.requires.place));
+      adds = tt;
+    })
 
 -- a null was refused
-pub read_list-returns-in_err-read_null-clause-reads : goal.read_list-returns-in_err-read_null-clause-reads
-read_list-returns-in_err-read_null-clause-reads g t c =
+pub read_list-returns-in_err-read_null : goal.read_list-returns-in_err-read_null
+read_list-returns-in_err-read_null g t c =
     let d = g.met.D.ShapeDeserializer in
     let s0 = g.D.ShapeDeserializer.settings c.args.source.now in
     let laws = obeyed _ _ _ (d.lawful s0) (d.lifted_lawful s0) (d.above s0) (d.counts s0) in
@@ -67,11 +75,15 @@ read_list-returns-in_err-read_null-clause-reads g t c =
     let told = c.in_err-read_null.ensures.reads in
     let p = err_from_is_err_and c.from_residual-in_err-read_null.result c.from_residual-in_err-read_null.ensures.1 in
     rw (p.1, p.2)
-    (null_fails _ _ _ _ laws _ outer _ _ _ _ _ _ _ c.requires.place place.1 (c.is_sparse-sparse.ensures.0 c.if-sparse.true) half step (rw (c.next_element.ensures.same, same) at begins) told.conduct told.narrow told.shallow (rw (c.next_element.ensures.same, same) at told.refused) (rw (c.next_element.ensures.same, same) at told.none_without_limits))
+    (record {
+      same = c.read_null.ensures.same ∙ c.next_element.ensures.same ∙ same;
+      reads = null_fails _ _ _ _ laws _ outer _ _ _ _ _ _ _ c.requires.place place.1 (c.is_sparse-sparse.ensures.0 c.if-sparse.true) half step (rw (c.next_element.ensures.same, same) at begins) told.conduct told.narrow told.shallow (rw (c.next_element.ensures.same, same) at told.refused) (rw (c.next_element.ensures.same, same) at told.none_without_limits);
+      adds = tt;
+    })
 
 -- memory ran out for it
-pub read_list-returns-in_err-push_element-clause-reads : goal.read_list-returns-in_err-push_element-clause-reads
-read_list-returns-in_err-push_element-clause-reads g t c =
+pub read_list-returns-in_err-push_element : goal.read_list-returns-in_err-push_element
+read_list-returns-in_err-push_element g t c =
     let d = g.met.D.ShapeDeserializer in
     let s0 = g.D.ShapeDeserializer.settings c.args.source.now in
     let laws = obeyed _ _ _ (d.lawful s0) (d.lifted_lawful s0) (d.above s0) (d.counts s0) in
@@ -84,7 +96,11 @@ read_list-returns-in_err-push_element-clause-reads g t c =
     let passes = c.in_ok-read_null.ensures.reads.passes begins in
     let p = err_from_is_err_and c.from_residual-in_err-push_element.result c.from_residual-in_err-push_element.ensures.1 in
     rw (p.1, p.2)
-    (memory_fails _ _ _ _ _ outer _ _ _ (null_passed _ _ _ _ laws outer _ _ _ _ _ (c.is_sparse-sparse.ensures.0 c.if-sparse.true) half step nulls passes).reached c.in_err-push_element.ensures.err)
+    (record {
+      same = c.read_null.ensures.same ∙ c.next_element.ensures.same ∙ same;
+      reads = memory_fails _ _ _ _ _ outer _ _ _ (null_passed _ _ _ _ laws outer _ _ _ _ _ (c.is_sparse-sparse.ensures.0 c.if-sparse.true) half step nulls passes).reached c.in_err-push_element.ensures.err;
+      adds = tt;
+    })
 
 -- a null was read
 pub read_list-loop-elements-preserved-then-is_null : goal.read_list-loop-elements-preserved-then-is_null
@@ -106,8 +122,8 @@ read_list-loop-elements-preserved-then-is_null g t c =
     }
 
 -- an element was refused
-pub read_list-returns-in_err-item-clause-reads : goal.read_list-returns-in_err-item-clause-reads
-read_list-returns-in_err-item-clause-reads g t c =
+pub read_list-returns-in_err-item : goal.read_list-returns-in_err-item
+read_list-returns-in_err-item g t c =
     let d = g.met.D.ShapeDeserializer in
     let s0 = g.D.ShapeDeserializer.settings c.args.source.now in
     let laws = obeyed _ _ _ (d.lawful s0) (d.lifted_lawful s0) (d.above s0) (d.counts s0) in
@@ -122,11 +138,15 @@ read_list-returns-in_err-item-clause-reads g t c =
     ] in
     let p = err_from_is_err_and c.from_residual-in_err-item.result c.from_residual-in_err-item.ensures.1 in
     rw (p.1, p.2)
-    (element_fails _ _ _ _ laws _ _ outer (site_of c.in-Some.element) _ _ _ _ _ _ c.requires.place place half step no_null (rw (c.next_element.ensures.same, same) at c.in_err-item.ensures.reads))
+    (record {
+      same = c.read_tree.ensures.same ∙ c.next_element.ensures.same ∙ same;
+      reads = element_fails _ _ _ _ laws _ _ outer (site_of c.in-Some.element) _ _ _ _ _ _ c.requires.place place half step no_null (rw (c.next_element.ensures.same, same) at c.in_err-item.ensures.reads);
+      adds = tt;
+    })
 
 -- memory ran out for it
-pub read_list-returns-in_err-push_element-2-clause-reads : goal.read_list-returns-in_err-push_element-2-clause-reads
-read_list-returns-in_err-push_element-2-clause-reads g t c =
+pub read_list-returns-in_err-push_element-2 : goal.read_list-returns-in_err-push_element-2
+read_list-returns-in_err-push_element-2 g t c =
     let d = g.met.D.ShapeDeserializer in
     let s0 = g.D.ShapeDeserializer.settings c.args.source.now in
     let laws = obeyed _ _ _ (d.lawful s0) (d.lifted_lawful s0) (d.above s0) (d.counts s0) in
@@ -137,7 +157,11 @@ read_list-returns-in_err-push_element-2-clause-reads g t c =
     let reads = rw (c.next_element.ensures.same, same) at c.in_ok-item.ensures.reads in
     let p = err_from_is_err_and c.from_residual-in_err-push_element-2.result c.from_residual-in_err-push_element-2.ensures.1 in
     rw (p.1, p.2)
-    (memory_fails _ _ _ _ _ outer _ _ _ (value_passed _ _ _ _ laws _ (site_of c.in-Some.element) _ _ _ _ (stepped_to _ _ _ laws _ _ _ _ _ None half.reached step) reads) c.in_err-push_element-2.ensures.err)
+    (record {
+      same = c.read_tree.ensures.same ∙ c.next_element.ensures.same ∙ same;
+      reads = memory_fails _ _ _ _ _ outer _ _ _ (value_passed _ _ _ _ laws _ (site_of c.in-Some.element) _ _ _ _ (stepped_to _ _ _ laws _ _ _ _ _ None half.reached step) reads) c.in_err-push_element-2.ensures.err;
+      adds = tt;
+    })
 
 -- an element was read
 pub read_list-loop-elements-preserved : goal.read_list-loop-elements-preserved
@@ -167,8 +191,8 @@ read_list-loop-elements-preserved g t c =
     }
 
 -- the list ended
-pub read_list-returns-clause-reads : goal.read_list-returns-clause-reads
-read_list-returns-clause-reads g t c =
+pub read_list-returns : goal.read_list-returns
+read_list-returns g t c =
     let d = g.met.D.ShapeDeserializer in
     let s0 = g.D.ShapeDeserializer.settings c.args.source.now in
     let laws = obeyed _ _ _ (d.lawful s0) (d.lifted_lawful s0) (d.above s0) (d.counts s0) in
@@ -176,10 +200,11 @@ read_list-returns-clause-reads g t c =
     let half = c.loop-elements.invariant.half in
     let same = c.loop-elements.invariant.same in
     let leaves = rw (c.if-branch.false, same) at (c.in_ok-next_element.ensures.goes_on.ok half.kept.due c.args.schema.now.shapes.now c.args.schema.now.place c.requires.place) in
-    ends_whole _ _ _ _ laws _ outer _ _ _ _ _ _ _ half leaves refl (made_shown _ _ _ _ _ _ c.list.result (c.list.ensures.ok c.args.trees.now c.loop-elements.invariant.begun)) c.list.ensures.err
-
-pub read_list-returns-clause-adds : goal.read_list-returns-clause-adds
-read_list-returns-clause-adds g t c = made_added _ _ _ _ _ _ c.list.result (c.list.ensures.ok c.args.trees.now c.loop-elements.invariant.begun)
+    record {
+      same = c.next_element.ensures.same ∙ same;
+      reads = ends_whole _ _ _ _ laws _ outer _ _ _ _ _ _ _ half leaves refl (made_shown _ _ _ _ _ _ c.list.result (c.list.ensures.ok c.args.trees.now c.loop-elements.invariant.begun)) c.list.ensures.err;
+      adds = made_added _ _ _ _ _ _ c.list.result (c.list.ensures.ok c.args.trees.now c.loop-elements.invariant.begun);
+    }
 
 -- less is left to read
 pub read_list-loop-elements-smaller-then-is_null : goal.read_list-loop-elements-smaller-then-is_null

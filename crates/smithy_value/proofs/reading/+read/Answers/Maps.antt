@@ -15,14 +15,18 @@ use Rattle.smithy_value.proofs.reading.+read.Goals as goal
 use Rattle.smithy_value.proofs.reading.+read.Goals.{read_map-else-sparse-via-then-sparse+else-is_null, read_map-else-sparse-via-else-sparse}
 
 -- the map can not be entered
-pub read_map-returns-in_err-open_map-clause-reads : goal.read_map-returns-in_err-open_map-clause-reads
-read_map-returns-in_err-open_map-clause-reads g t c =
+pub read_map-returns-in_err-open_map : goal.read_map-returns-in_err-open_map
+read_map-returns-in_err-open_map g t c =
     let d = g.met.D.ShapeDeserializer in
     let s0 = g.D.ShapeDeserializer.settings c.args.source.now in
     let told = c.in_err-open_map.ensures.opens in
     let p = err_from_is_err_and c.from_residual.result c.from_residual.ensures.1 in
     rw (p.1, p.2)
-    (open_fails _ _ _ _ _ (site_of c.args.schema.now) _ _ _ (d.lawful s0) (d.lifted_lawful s0) (map_contains _ c.requires.place) c.requires.due told.conduct told.narrow told.told told.refused told.none_without_limits told.deepest)
+    (record {
+      same = c.open_map.ensures.same;
+      reads = open_fails _ _ _ _ _ (site_of c.args.schema.now) _ _ _ (d.lawful s0) (d.lifted_lawful s0) (map_contains _ c.requires.place) c.requires.due told.conduct told.narrow told.told told.refused told.none_without_limits told.deepest;
+      adds = tt;
+    })
 
 -- it was entered
 pub read_map-loop-entries-init : goal.read_map-loop-entries-init
@@ -38,8 +42,8 @@ read_map-loop-entries-init g t c =
     }
 
 -- it can not go on
-pub read_map-returns-in_err-key-clause-reads : goal.read_map-returns-in_err-key-clause-reads
-read_map-returns-in_err-key-clause-reads g t c =
+pub read_map-returns-in_err-key : goal.read_map-returns-in_err-key
+read_map-returns-in_err-key g t c =
     let d = g.met.D.ShapeDeserializer in
     let s0 = g.D.ShapeDeserializer.settings c.args.source.now in
     let laws = obeyed _ _ _ (d.lawful s0) (d.lifted_lawful s0) (d.above s0) (d.counts s0) in
@@ -49,13 +53,17 @@ read_map-returns-in_err-key-clause-reads g t c =
     let told = c.in_err-key.ensures.goes_on in
     let p = err_from_is_err_and c.from_residual-in_err-key.result c.from_residual-in_err-key.ensures.1 in
     rw (p.1, p.2)
-    (goes_no_further _ _ _ _ laws _ outer _ _ _ _ _ _ half told.conduct told.narrow (λ is. absurd (told.shallow is)) (λ is. absurd (told.shallow is))
-    (λ fault due. rw same at (told.refused fault due c.args.schema.now.shapes.now c.args.schema.now.place c.requires.place))
-    (λ strict invalid due. rw same at (told.none_without_limits (rw same strict) invalid due c.args.schema.now.shapes.now c.args.schema.now.place c.requires.place)))
+    (record {
+      same = c.take_key.ensures.same ∙ same;
+      reads = goes_no_further _ _ _ _ laws _ outer _ _ _ _ _ _ half told.conduct told.narrow (λ is. absurd (told.shallow is)) (λ is. absurd (told.shallow is))
+          (λ fault due. rw same at (told.refused fault due c.args.schema.now.shapes.now c.args.schema.now.place c.requires.place))
+          (λ strict invalid due. rw same at (told.none_without_limits (rw same strict) invalid due c.args.schema.now.shapes.now c.args.schema.now.place c.requires.place));
+      adds = tt;
+    })
 
 -- a null was refused
-pub read_map-returns-in_err-read_null-clause-reads : goal.read_map-returns-in_err-read_null-clause-reads
-read_map-returns-in_err-read_null-clause-reads g t c =
+pub read_map-returns-in_err-read_null : goal.read_map-returns-in_err-read_null
+read_map-returns-in_err-read_null g t c =
     let d = g.met.D.ShapeDeserializer in
     let s0 = g.D.ShapeDeserializer.settings c.args.source.now in
     let laws = obeyed _ _ _ (d.lawful s0) (d.lifted_lawful s0) (d.above s0) (d.counts s0) in
@@ -68,11 +76,15 @@ read_map-returns-in_err-read_null-clause-reads g t c =
     let told = c.in_err-read_null.ensures.reads in
     let p = err_from_is_err_and c.from_residual-in_err-read_null.result c.from_residual-in_err-read_null.ensures.1 in
     rw (p.1, p.2)
-    (null_entry_fails _ _ _ _ laws _ outer _ _ _ _ _ _ _ _ c.requires.place place.1 (c.is_sparse-sparse.ensures.0 c.if-sparse.true) half step (rw (c.take_key.ensures.same, same) at begins) told.conduct told.narrow told.shallow (rw (c.take_key.ensures.same, same) at told.refused) (rw (c.take_key.ensures.same, same) at told.none_without_limits))
+    (record {
+      same = c.read_null.ensures.same ∙ c.take_key.ensures.same ∙ same;
+      reads = null_entry_fails _ _ _ _ laws _ outer _ _ _ _ _ _ _ _ c.requires.place place.1 (c.is_sparse-sparse.ensures.0 c.if-sparse.true) half step (rw (c.take_key.ensures.same, same) at begins) told.conduct told.narrow told.shallow (rw (c.take_key.ensures.same, same) at told.refused) (rw (c.take_key.ensures.same, same) at told.none_without_limits);
+      adds = tt;
+    })
 
 -- memory ran out for it
-pub read_map-returns-in_err-set_entry-clause-reads : goal.read_map-returns-in_err-set_entry-clause-reads
-read_map-returns-in_err-set_entry-clause-reads g t c =
+pub read_map-returns-in_err-set_entry : goal.read_map-returns-in_err-set_entry
+read_map-returns-in_err-set_entry g t c =
     let d = g.met.D.ShapeDeserializer in
     let s0 = g.D.ShapeDeserializer.settings c.args.source.now in
     let laws = obeyed _ _ _ (d.lawful s0) (d.lifted_lawful s0) (d.above s0) (d.counts s0) in
@@ -85,7 +97,11 @@ read_map-returns-in_err-set_entry-clause-reads g t c =
     let passes = c.in_ok-read_null.ensures.reads.passes begins in
     let p = err_from_is_err_and c.from_residual-in_err-set_entry.result c.from_residual-in_err-set_entry.ensures.1 in
     rw (p.1, p.2)
-    (memory_fails _ _ _ _ _ outer _ _ _ (null_entry_passed _ _ _ _ laws outer _ _ _ _ _ _ (c.is_sparse-sparse.ensures.0 c.if-sparse.true) half step nulls passes).reached c.in_err-set_entry.ensures.err)
+    (record {
+      same = c.read_null.ensures.same ∙ c.take_key.ensures.same ∙ same;
+      reads = memory_fails _ _ _ _ _ outer _ _ _ (null_entry_passed _ _ _ _ laws outer _ _ _ _ _ _ (c.is_sparse-sparse.ensures.0 c.if-sparse.true) half step nulls passes).reached c.in_err-set_entry.ensures.err;
+      adds = tt;
+    })
 
 -- a null was read
 pub read_map-loop-entries-preserved-then-is_null : goal.read_map-loop-entries-preserved-then-is_null
@@ -109,8 +125,8 @@ read_map-loop-entries-preserved-then-is_null g t c =
     }
 
 -- a value was refused
-pub read_map-returns-in_err-value-clause-reads : goal.read_map-returns-in_err-value-clause-reads
-read_map-returns-in_err-value-clause-reads g t c =
+pub read_map-returns-in_err-value : goal.read_map-returns-in_err-value
+read_map-returns-in_err-value g t c =
     let d = g.met.D.ShapeDeserializer in
     let s0 = g.D.ShapeDeserializer.settings c.args.source.now in
     let laws = obeyed _ _ _ (d.lawful s0) (d.lifted_lawful s0) (d.above s0) (d.counts s0) in
@@ -125,11 +141,15 @@ read_map-returns-in_err-value-clause-reads g t c =
     ] in
     let p = err_from_is_err_and c.from_residual-in_err-value.result c.from_residual-in_err-value.ensures.1 in
     rw (p.1, p.2)
-    (entry_fails _ _ _ _ laws _ _ outer (site_of c.in-Some.inner) _ _ _ _ _ _ _ c.requires.place place half step no_null (rw (c.take_key.ensures.same, same) at c.in_err-value.ensures.reads))
+    (record {
+      same = c.read_tree.ensures.same ∙ c.take_key.ensures.same ∙ same;
+      reads = entry_fails _ _ _ _ laws _ _ outer (site_of c.in-Some.inner) _ _ _ _ _ _ _ c.requires.place place half step no_null (rw (c.take_key.ensures.same, same) at c.in_err-value.ensures.reads);
+      adds = tt;
+    })
 
 -- memory ran out for it
-pub read_map-returns-in_err-set_entry-2-clause-reads : goal.read_map-returns-in_err-set_entry-2-clause-reads
-read_map-returns-in_err-set_entry-2-clause-reads g t c =
+pub read_map-returns-in_err-set_entry-2 : goal.read_map-returns-in_err-set_entry-2
+read_map-returns-in_err-set_entry-2 g t c =
     let d = g.met.D.ShapeDeserializer in
     let s0 = g.D.ShapeDeserializer.settings c.args.source.now in
     let laws = obeyed _ _ _ (d.lawful s0) (d.lifted_lawful s0) (d.above s0) (d.counts s0) in
@@ -140,7 +160,11 @@ read_map-returns-in_err-set_entry-2-clause-reads g t c =
     let reads = rw (c.take_key.ensures.same, same) at c.in_ok-value.ensures.reads in
     let p = err_from_is_err_and c.from_residual-in_err-set_entry-2.result c.from_residual-in_err-set_entry-2.ensures.1 in
     rw (p.1, p.2)
-    (memory_fails _ _ _ _ _ outer _ _ _ (value_passed _ _ _ _ laws _ (site_of c.in-Some.inner) _ _ _ _ (stepped_to _ _ _ laws _ _ _ _ _ _ half.reached step) reads) c.in_err-set_entry-2.ensures.err)
+    (record {
+      same = c.read_tree.ensures.same ∙ c.take_key.ensures.same ∙ same;
+      reads = memory_fails _ _ _ _ _ outer _ _ _ (value_passed _ _ _ _ laws _ (site_of c.in-Some.inner) _ _ _ _ (stepped_to _ _ _ laws _ _ _ _ _ _ half.reached step) reads) c.in_err-set_entry-2.ensures.err;
+      adds = tt;
+    })
 
 -- a value was read
 pub read_map-loop-entries-preserved : goal.read_map-loop-entries-preserved
@@ -171,8 +195,8 @@ read_map-loop-entries-preserved g t c =
     }
 
 -- the map ended
-pub read_map-returns-clause-reads : goal.read_map-returns-clause-reads
-read_map-returns-clause-reads g t c =
+pub read_map-returns : goal.read_map-returns
+read_map-returns g t c =
     let d = g.met.D.ShapeDeserializer in
     let s0 = g.D.ShapeDeserializer.settings c.args.source.now in
     let laws = obeyed _ _ _ (d.lawful s0) (d.lifted_lawful s0) (d.above s0) (d.counts s0) in
@@ -180,10 +204,11 @@ read_map-returns-clause-reads g t c =
     let half = c.loop-entries.invariant.half in
     let same = c.loop-entries.invariant.same in
     let leaves = rw (c.in_default-2.is, same) at (c.in_ok-key.ensures.goes_on.ok half.kept.due c.args.schema.now.shapes.now c.args.schema.now.place c.requires.place) in
-    ends_whole _ _ _ _ laws _ outer _ _ _ _ _ _ _ half leaves refl (made_shown _ _ _ _ _ _ c.map.result (c.map.ensures.ok c.args.trees.now c.loop-entries.invariant.begun)) c.map.ensures.err
-
-pub read_map-returns-clause-adds : goal.read_map-returns-clause-adds
-read_map-returns-clause-adds g t c = made_added _ _ _ _ _ _ c.map.result (c.map.ensures.ok c.args.trees.now c.loop-entries.invariant.begun)
+    record {
+      same = c.take_key.ensures.same ∙ same;
+      reads = ends_whole _ _ _ _ laws _ outer _ _ _ _ _ _ _ half leaves refl (made_shown _ _ _ _ _ _ c.map.result (c.map.ensures.ok c.args.trees.now c.loop-entries.invariant.begun)) c.map.ensures.err;
+      adds = made_added _ _ _ _ _ _ c.map.result (c.map.ensures.ok c.args.trees.now c.loop-entries.invariant.begun);
+    }
 
 -- less is left to read
 pub read_map-loop-entries-smaller-then-is_null : goal.read_map-loop-entries-smaller-then-is_null

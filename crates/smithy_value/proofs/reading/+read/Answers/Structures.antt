@@ -12,14 +12,18 @@ use Rattle.smithy_value.proofs.HalfMembers.{structure_or_union, member_fails, st
 use Rattle.smithy_value.proofs.reading.+read.Goals as goal
 
 -- the structure can not be entered
-pub read_structure-returns-in_err-open_struct-clause-reads : goal.read_structure-returns-in_err-open_struct-clause-reads
-read_structure-returns-in_err-open_struct-clause-reads g t c =
+pub read_structure-returns-in_err-open_struct : goal.read_structure-returns-in_err-open_struct
+read_structure-returns-in_err-open_struct g t c =
     let d = g.met.D.ShapeDeserializer in
     let s0 = g.D.ShapeDeserializer.settings c.args.source.now in
     let told = c.in_err-open_struct.ensures.opens in
     let p = err_from_is_err_and c.from_residual.result c.from_residual.ensures.1 in
     rw (p.1, p.2)
-    (open_fails _ _ _ _ _ (site_of c.args.schema.now) _ _ _ (d.lawful s0) (d.lifted_lawful s0) (structure_contains _ c.requires.place) c.requires.due told.conduct told.narrow told.told told.refused told.none_without_limits told.deepest)
+    (record {
+      same = c.open_struct.ensures.same;
+      reads = open_fails _ _ _ _ _ (site_of c.args.schema.now) _ _ _ (d.lawful s0) (d.lifted_lawful s0) (structure_contains _ c.requires.place) c.requires.due told.conduct told.narrow told.told told.refused told.none_without_limits told.deepest;
+      adds = tt;
+    })
 
 -- it was entered
 pub read_structure-loop-members-init : goal.read_structure-loop-members-init
@@ -35,8 +39,8 @@ read_structure-loop-members-init g t c =
     }
 
 -- it can not go on
-pub read_structure-returns-in_err-member-clause-reads : goal.read_structure-returns-in_err-member-clause-reads
-read_structure-returns-in_err-member-clause-reads g t c =
+pub read_structure-returns-in_err-member : goal.read_structure-returns-in_err-member
+read_structure-returns-in_err-member g t c =
     let d = g.met.D.ShapeDeserializer in
     let s0 = g.D.ShapeDeserializer.settings c.args.source.now in
     let laws = obeyed _ _ _ (d.lawful s0) (d.lifted_lawful s0) (d.above s0) (d.counts s0) in
@@ -46,11 +50,15 @@ read_structure-returns-in_err-member-clause-reads g t c =
     let told = c.in_err-member.ensures.goes_on in
     let p = err_from_is_err_and c.from_residual-in_err-member.result c.from_residual-in_err-member.ensures.1 in
     rw (p.1, p.2)
-    (goes_no_further _ _ _ _ laws _ outer _ _ _ _ _ _ half told.conduct told.narrow (rw same at told.deep) (rw same at told.limited) (rw same at told.refused) (rw same at told.none_without_limits))
+    (record {
+      same = c.next_member.ensures.same ∙ same;
+      reads = goes_no_further _ _ _ _ laws _ outer _ _ _ _ _ _ half told.conduct told.narrow (rw same at told.deep) (rw same at told.limited) (rw same at told.refused) (rw same at told.none_without_limits);
+      adds = tt;
+    })
 
 -- the value of a member was refused
-pub read_structure-returns-in_err-value-in-Member-clause-reads : goal.read_structure-returns-in_err-value-in-Member-clause-reads
-read_structure-returns-in_err-value-in-Member-clause-reads g t c =
+pub read_structure-returns-in_err-value-in-Member : goal.read_structure-returns-in_err-value-in-Member
+read_structure-returns-in_err-value-in-Member g t c =
     let d = g.met.D.ShapeDeserializer in
     let s0 = g.D.ShapeDeserializer.settings c.args.source.now in
     let laws = obeyed _ _ _ (d.lawful s0) (d.lifted_lawful s0) (d.above s0) (d.counts s0) in
@@ -60,11 +68,15 @@ read_structure-returns-in_err-value-in-Member-clause-reads g t c =
     let step = rw (c.in-Member.is, same) at (c.in_ok-member.ensures.goes_on.ok half.kept.due) in
     let p = err_from_is_err_and c.from_residual-in_err-value-in-Member.result c.from_residual-in_err-value-in-Member.ensures.1 in
     rw (p.1, p.2)
-    (member_fails _ _ _ _ laws _ _ outer c.in-Member.member _ _ _ _ _ _ (structure_has_members _ c.requires.place) half (λ variant. absurd (structure_or_union _ c.requires.place variant)) step (rw (c.next_member.ensures.same, same) at c.in_err-value-in-Member.ensures.reads))
+    (record {
+      same = c.read_tree.ensures.same ∙ c.next_member.ensures.same ∙ same;
+      reads = member_fails _ _ _ _ laws _ _ outer c.in-Member.member _ _ _ _ _ _ (structure_has_members _ c.requires.place) half (λ variant. absurd (structure_or_union _ c.requires.place variant)) step (rw (c.next_member.ensures.same, same) at c.in_err-value-in-Member.ensures.reads);
+      adds = tt;
+    })
 
 -- memory ran out
-pub read_structure-returns-in_err-set_member-in-Member-clause-reads : goal.read_structure-returns-in_err-set_member-in-Member-clause-reads
-read_structure-returns-in_err-set_member-in-Member-clause-reads g t c =
+pub read_structure-returns-in_err-set_member-in-Member : goal.read_structure-returns-in_err-set_member-in-Member
+read_structure-returns-in_err-set_member-in-Member g t c =
     let d = g.met.D.ShapeDeserializer in
     let s0 = g.D.ShapeDeserializer.settings c.args.source.now in
     let laws = obeyed _ _ _ (d.lawful s0) (d.lifted_lawful s0) (d.above s0) (d.counts s0) in
@@ -75,7 +87,11 @@ read_structure-returns-in_err-set_member-in-Member-clause-reads g t c =
     let reads = rw (c.next_member.ensures.same, same) at c.in_ok-value-in-Member.ensures.reads in
     let p = err_from_is_err_and c.from_residual-in_err-set_member-in-Member.result c.from_residual-in_err-set_member-in-Member.ensures.1 in
     rw (p.1, p.2)
-    (memory_fails _ _ _ _ _ outer _ _ _ (value_passed _ _ _ _ laws _ (site_of c.in-Member.member) _ _ _ _ (stepped_to _ _ _ laws _ _ _ _ _ (Some step.0) half.reached step.2) reads) c.in_err-set_member-in-Member.ensures.err)
+    (record {
+      same = c.read_tree.ensures.same ∙ c.next_member.ensures.same ∙ same;
+      reads = memory_fails _ _ _ _ _ outer _ _ _ (value_passed _ _ _ _ laws _ (site_of c.in-Member.member) _ _ _ _ (stepped_to _ _ _ laws _ _ _ _ _ (Some step.0) half.reached step.2) reads) c.in_err-set_member-in-Member.ensures.err;
+      adds = tt;
+    })
 
 -- a member was read
 pub read_structure-loop-members-preserved-in-Continue-branch-5 : goal.read_structure-loop-members-preserved-in-Continue-branch-5
@@ -100,8 +116,8 @@ read_structure-loop-members-preserved-in-Continue-branch-5 g t c =
     }
 
 -- an unknown entry can not be skipped
-pub read_structure-returns-in_err-skip_value-in-Unknown-clause-reads : goal.read_structure-returns-in_err-skip_value-in-Unknown-clause-reads
-read_structure-returns-in_err-skip_value-in-Unknown-clause-reads g t c =
+pub read_structure-returns-in_err-skip_value-in-Unknown : goal.read_structure-returns-in_err-skip_value-in-Unknown
+read_structure-returns-in_err-skip_value-in-Unknown g t c =
     let d = g.met.D.ShapeDeserializer in
     let s0 = g.D.ShapeDeserializer.settings c.args.source.now in
     let laws = obeyed _ _ _ (d.lawful s0) (d.lifted_lawful s0) (d.above s0) (d.counts s0) in
@@ -112,7 +128,11 @@ read_structure-returns-in_err-skip_value-in-Unknown-clause-reads g t c =
     let told = c.in_err-skip_value-in-Unknown.ensures.skips in
     let p = err_from_is_err_and c.from_residual-in_err-skip_value-in-Unknown.result c.from_residual-in_err-skip_value-in-Unknown.ensures.1 in
     rw (p.1, p.2)
-    (unknown_fails _ _ _ _ laws _ outer _ _ _ _ _ _ c.requires.place half step told.conduct told.narrow (rw (c.next_member.ensures.same, same) at told.deep) (rw (c.next_member.ensures.same, same) at told.limited) (rw (c.next_member.ensures.same, same) at told.refused) (rw (c.next_member.ensures.same, same) at told.none_without_limits))
+    (record {
+      same = c.skip_value.ensures.same ∙ c.next_member.ensures.same ∙ same;
+      reads = unknown_fails _ _ _ _ laws _ outer _ _ _ _ _ _ c.requires.place half step told.conduct told.narrow (rw (c.next_member.ensures.same, same) at told.deep) (rw (c.next_member.ensures.same, same) at told.limited) (rw (c.next_member.ensures.same, same) at told.refused) (rw (c.next_member.ensures.same, same) at told.none_without_limits);
+      adds = tt;
+    })
 
 -- an unknown entry was skipped
 pub read_structure-loop-members-preserved : goal.read_structure-loop-members-preserved
@@ -132,8 +152,8 @@ read_structure-loop-members-preserved g t c =
     }
 
 -- the structure ended
-pub read_structure-returns-in-End-clause-reads : goal.read_structure-returns-in-End-clause-reads
-read_structure-returns-in-End-clause-reads g t c =
+pub read_structure-returns-in-End : goal.read_structure-returns-in-End
+read_structure-returns-in-End g t c =
     let d = g.met.D.ShapeDeserializer in
     let s0 = g.D.ShapeDeserializer.settings c.args.source.now in
     let laws = obeyed _ _ _ (d.lawful s0) (d.lifted_lawful s0) (d.above s0) (d.counts s0) in
@@ -141,10 +161,11 @@ read_structure-returns-in-End-clause-reads g t c =
     let half = c.loop-members.invariant.half in
     let same = c.loop-members.invariant.same in
     let leaves = rw (c.in-End.is, same) at (c.in_ok-member.ensures.goes_on.ok half.kept.due) in
-    ends_whole _ _ _ _ laws _ outer _ _ _ _ _ _ _ half leaves refl (made_shown _ _ _ _ _ _ c.structure.result (c.structure.ensures.ok c.args.trees.now c.loop-members.invariant.begun)) c.structure.ensures.err
-
-pub read_structure-returns-in-End-clause-adds : goal.read_structure-returns-in-End-clause-adds
-read_structure-returns-in-End-clause-adds g t c = made_added _ _ _ _ _ _ c.structure.result (c.structure.ensures.ok c.args.trees.now c.loop-members.invariant.begun)
+    record {
+      same = c.next_member.ensures.same ∙ same;
+      reads = ends_whole _ _ _ _ laws _ outer _ _ _ _ _ _ _ half leaves refl (made_shown _ _ _ _ _ _ c.structure.result (c.structure.ensures.ok c.args.trees.now c.loop-members.invariant.begun)) c.structure.ensures.err;
+      adds = made_added _ _ _ _ _ _ c.structure.result (c.structure.ensures.ok c.args.trees.now c.loop-members.invariant.begun);
+    }
 
 -- less is left to read
 pub read_structure-loop-members-smaller-in-Continue-branch-5 : goal.read_structure-loop-members-smaller-in-Continue-branch-5

@@ -11,18 +11,22 @@ use Rattle.smithy_value.proofs.HalfMembers.{member_fails, union_entered, variant
 use Rattle.smithy_value.proofs.reading.+read.Goals as goal
 
 -- the union can not be entered
-pub read_union-returns-in_err-open_struct-clause-reads : goal.read_union-returns-in_err-open_struct-clause-reads
-read_union-returns-in_err-open_struct-clause-reads g t c =
+pub read_union-returns-in_err-open_struct : goal.read_union-returns-in_err-open_struct
+read_union-returns-in_err-open_struct g t c =
     let d = g.met.D.ShapeDeserializer in
     let s0 = g.D.ShapeDeserializer.settings c.args.source.now in
     let told = c.in_err-open_struct.ensures.opens in
     let p = err_from_is_err_and c.from_residual.result c.from_residual.ensures.1 in
     rw (p.1, p.2)
-    (open_fails _ _ _ _ _ (site_of c.args.schema.now) _ _ _ (d.lawful s0) (d.lifted_lawful s0) (union_contains _ c.requires.place) c.requires.due told.conduct told.narrow told.told told.refused told.none_without_limits told.deepest)
+    (record {
+      same = c.open_struct.ensures.same;
+      reads = open_fails _ _ _ _ _ (site_of c.args.schema.now) _ _ _ (d.lawful s0) (d.lifted_lawful s0) (union_contains _ c.requires.place) c.requires.due told.conduct told.narrow told.told told.refused told.none_without_limits told.deepest;
+      adds = tt;
+    })
 
 -- it can not begin
-pub read_union-returns-in_err-member-clause-reads : goal.read_union-returns-in_err-member-clause-reads
-read_union-returns-in_err-member-clause-reads g t c =
+pub read_union-returns-in_err-member : goal.read_union-returns-in_err-member
+read_union-returns-in_err-member g t c =
     let d = g.met.D.ShapeDeserializer in
     let s0 = g.D.ShapeDeserializer.settings c.args.source.now in
     let laws = obeyed _ _ _ (d.lawful s0) (d.lifted_lawful s0) (d.above s0) (d.counts s0) in
@@ -31,7 +35,11 @@ read_union-returns-in_err-member-clause-reads g t c =
     let told = c.in_err-member.ensures.goes_on in
     let p = err_from_is_err_and c.from_residual-in_err-member.result c.from_residual-in_err-member.ensures.1 in
     rw (p.1, p.2)
-    (goes_no_further _ _ _ _ laws _ outer _ _ _ _ _ _ half told.conduct told.narrow (rw c.open_struct.ensures.same at told.deep) (rw c.open_struct.ensures.same at told.limited) (rw c.open_struct.ensures.same at told.refused) (rw c.open_struct.ensures.same at told.none_without_limits))
+    (record {
+      same = c.next_member.ensures.same ∙ c.open_struct.ensures.same;
+      reads = goes_no_further _ _ _ _ laws _ outer _ _ _ _ _ _ half told.conduct told.narrow (rw c.open_struct.ensures.same at told.deep) (rw c.open_struct.ensures.same at told.limited) (rw c.open_struct.ensures.same at told.refused) (rw c.open_struct.ensures.same at told.none_without_limits);
+      adds = tt;
+    })
 
 -- no variant came
 pub read_union-returns-in_default : goal.read_union-returns-in_default
@@ -49,8 +57,8 @@ read_union-returns-in_default g t c =
     }
 
 -- the value of the variant was refused
-pub read_union-returns-in_err-value-clause-reads : goal.read_union-returns-in_err-value-clause-reads
-read_union-returns-in_err-value-clause-reads g t c =
+pub read_union-returns-in_err-value : goal.read_union-returns-in_err-value
+read_union-returns-in_err-value g t c =
     let d = g.met.D.ShapeDeserializer in
     let s0 = g.D.ShapeDeserializer.settings c.args.source.now in
     let laws = obeyed _ _ _ (d.lawful s0) (d.lifted_lawful s0) (d.above s0) (d.counts s0) in
@@ -59,11 +67,15 @@ read_union-returns-in_err-value-clause-reads g t c =
     let step = rw (c.in-Member.is, c.open_struct.ensures.same) at (c.in_ok-member.ensures.goes_on.ok half.kept.due) in
     let p = err_from_is_err_and c.from_residual-in_err-value.result c.from_residual-in_err-value.ensures.1 in
     rw (p.1, p.2)
-    (member_fails _ _ _ _ laws _ _ outer c.in-Member.member _ _ _ _ _ _ (union_has_members _ c.requires.place) half (λ variant. refl {a = false}) step (rw (c.next_member.ensures.same, c.open_struct.ensures.same) at c.in_err-value.ensures.reads))
+    (record {
+      same = c.read_tree.ensures.same ∙ c.next_member.ensures.same ∙ c.open_struct.ensures.same;
+      reads = member_fails _ _ _ _ laws _ _ outer c.in-Member.member _ _ _ _ _ _ (union_has_members _ c.requires.place) half (λ variant. refl {a = false}) step (rw (c.next_member.ensures.same, c.open_struct.ensures.same) at c.in_err-value.ensures.reads);
+      adds = tt;
+    })
 
 -- the union can not go on behind the variant
-pub read_union-returns-in_err-next_member-clause-reads : goal.read_union-returns-in_err-next_member-clause-reads
-read_union-returns-in_err-next_member-clause-reads g t c =
+pub read_union-returns-in_err-next_member : goal.read_union-returns-in_err-next_member
+read_union-returns-in_err-next_member g t c =
     let d = g.met.D.ShapeDeserializer in
     let s0 = g.D.ShapeDeserializer.settings c.args.source.now in
     let laws = obeyed _ _ _ (d.lawful s0) (d.lifted_lawful s0) (d.above s0) (d.counts s0) in
@@ -76,7 +88,11 @@ read_union-returns-in_err-next_member-clause-reads g t c =
     let told = c.in_err-next_member.ensures.goes_on in
     let p = err_from_is_err_and c.from_residual-in_err-next_member.result c.from_residual-in_err-next_member.ensures.1 in
     rw (p.1, p.2)
-    (goes_no_further _ _ _ _ laws _ outer _ _ _ _ _ _ behind told.conduct told.narrow (rw same at told.deep) (rw same at told.limited) (rw same at told.refused) (rw same at told.none_without_limits))
+    (record {
+      same = c.next_member-2.ensures.same ∙ same;
+      reads = goes_no_further _ _ _ _ laws _ outer _ _ _ _ _ _ behind told.conduct told.narrow (rw same at told.deep) (rw same at told.limited) (rw same at told.refused) (rw same at told.none_without_limits);
+      adds = tt;
+    })
 
 -- a second entry came
 pub read_union-returns-in_default-2 : goal.read_union-returns-in_default-2
@@ -98,8 +114,8 @@ read_union-returns-in_default-2 g t c =
     }
 
 -- the union ended behind its variant
-pub read_union-returns-clause-reads : goal.read_union-returns-clause-reads
-read_union-returns-clause-reads g t c =
+pub read_union-returns : goal.read_union-returns
+read_union-returns g t c =
     let d = g.met.D.ShapeDeserializer in
     let s0 = g.D.ShapeDeserializer.settings c.args.source.now in
     let laws = obeyed _ _ _ (d.lawful s0) (d.lifted_lawful s0) (d.above s0) (d.counts s0) in
@@ -110,10 +126,11 @@ read_union-returns-clause-reads g t c =
     let behind = variant_passed _ _ _ _ laws outer c.in-Member.member _ _ _ _ c.in-Some.index _ half step (sym c.in-Some.ensures) reads.ok in
     let same = c.read_tree.ensures.same ∙ c.next_member.ensures.same ∙ c.open_struct.ensures.same in
     let leaves = rw (c.in-End.is, same) at (c.in_ok-next_member.ensures.goes_on.ok behind.kept.due) in
-    ends_whole _ _ _ _ laws _ outer _ _ _ _ _ _ _ behind leaves refl (made_shown _ _ _ _ _ _ c.union.result c.union.ensures.ok) c.union.ensures.err
-
-pub read_union-returns-clause-adds : goal.read_union-returns-clause-adds
-read_union-returns-clause-adds g t c = made_behind _ _ _ g.P.Trees.keeps_lawfully c.args.trees.now c.read_tree.new.trees c.union.new.self _ c.union.result c.in_ok-value.ensures.adds.0 c.union.ensures.ok
+    record {
+      same = c.next_member-2.ensures.same ∙ same;
+      reads = ends_whole _ _ _ _ laws _ outer _ _ _ _ _ _ _ behind leaves refl (made_shown _ _ _ _ _ _ c.union.result c.union.ensures.ok) c.union.ensures.err;
+      adds = made_behind _ _ _ g.P.Trees.keeps_lawfully c.args.trees.now c.read_tree.new.trees c.union.new.self _ c.union.result c.in_ok-value.ensures.adds.0 c.union.ensures.ok;
+    }
 
 pub read_union-read_tree-requires : goal.read_union-read_tree-requires
 read_union-read_tree-requires g t c κs within =
