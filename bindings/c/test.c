@@ -71,6 +71,10 @@ static void rows(void)
     TEXT_ROW("Q", SMITHY_JSON, SMITHY_JSON, "{}", SMITHY_NO_SUCH_SHAPE, "");
     TEXT_ROW("\xff", SMITHY_JSON, SMITHY_JSON, "{}", SMITHY_NO_SUCH_SHAPE, "");
     TEXT_ROW("L", SMITHY_JSON, SMITHY_JSON, "[]", SMITHY_NOT_A_STRUCTURE, "");
+    /* a wire that is none comes before the root */
+    TEXT_ROW("Q", SMITHY_QUERY, SMITHY_JSON, "{}", SMITHY_USAGE, "");
+    TEXT_ROW("Q", SMITHY_JSON, 99, "{}", SMITHY_USAGE, "");
+    TEXT_ROW("L", SMITHY_JSON, SMITHY_JSON_INTEGRAL, "[]", SMITHY_USAGE, "");
     smithy_task form = task_of("S", SMITHY_JSON, SMITHY_QUERY);
     form.action = "\xff";
     form.action_len = 1;
@@ -177,6 +181,8 @@ static void many(void)
     expect("an end before the one before it", smithy_table_transcode_all(&table, &task, ends, 3, input, 21, out, 32, out_ends, statuses, &done) == SMITHY_USAGE && done == 2);
     ends[2] = 22;
     expect("an end behind the input", smithy_table_transcode_all(&table, &task, ends, 3, input, 21, out, 32, out_ends, statuses, &done) == SMITHY_USAGE && done == 2);
+    expect("an end behind the input, and no room", smithy_table_transcode_all(&table, &task, ends, 3, input, 21, out, 14, out_ends, statuses, &done) == SMITHY_USAGE && done == 2);
+    expect("no place for ends, and no room", smithy_table_transcode_all(&table, &task, ends, 3, input, 21, out, 0, NULL, statuses, &done) == SMITHY_USAGE && done == 0);
     expect("no place for statuses", smithy_table_transcode_all(&table, &task, ends, 3, input, 21, out, 32, out_ends, NULL, &done) == SMITHY_USAGE && done == 0);
     expect("none", smithy_table_transcode_all(&table, &task, NULL, 0, NULL, 0, NULL, 0, NULL, NULL, &done) == SMITHY_DONE && done == 0);
     task.to = 9;

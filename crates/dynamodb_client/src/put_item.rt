@@ -1,9 +1,8 @@
 //! What PutItem is given.
-ghost use Rattle.std.specs.Prelude.{◌≡◌, false};
+ghost use Rattle.std.specs.Prelude.{◌≡◌};
 ghost use Rattle.smithy_shapes.specs.Site.{site_of};
-ghost use Rattle.smithy_schema.specs.Typed.{ReadsDueAs};
+ghost use Rattle.smithy_schema.specs.Typed.{ReadsDueAs, WritesWhole};
 ghost use Rattle.smithy_schema.specs.Writing.{events};
-ghost use Rattle.smithy_schema.specs.Written.{Runs, outcome};
 ghost use Rattle.smithy_schema.specs.Fields.{structure_with};
 ghost use Rattle.dynamodb_client.specs.PutItem.{IsPutItem, put_item_fields};
 
@@ -112,7 +111,7 @@ pub fn write_put_item<S: ShapeSerializer>(
     input: &PutItemInput,
 ) -> Result<(), SerdeError>
     // The members that are there are written in the table's order; a fault is that of this very run of calls.
-    ensures { S.failed sink.old ≡ false → Runs S.after (events (site_of schema.now) (structure_with (put_item_fields input.now))) (S.state sink.old) (outcome result (S.state sink.new)) }
+    ensures { WritesWhole S.after S.open_in (events (site_of schema.now) (structure_with (put_item_fields input.now))) (S.state sink.old) (S.failed sink.old) (S.state sink.new) (S.failed sink.new) result }
 {
     let written = Written {
         shape: *schema,

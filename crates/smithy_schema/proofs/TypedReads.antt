@@ -1,15 +1,25 @@
 -- What a read of a type answers that keeps a structure as fields.
-use Rattle.std.proofs.Common.{◌≡◌, true, List, Option, Ok, Err, refl}
+use Rattle.std.proofs.Common.{◌≡◌, true, false, List, Option, Result, Ok, Err, OnOk, refl, sym, ◌∙◌}
 use Rattle.smithy_schema.specs.declared.error.SerdeError.{SerdeError}
 use Rattle.smithy_declarations.specs.Table.{IsStructure}
 use Rattle.smithy_declarations.specs.Value.{Value, no_member_values}
 use Rattle.smithy_shapes.specs.Site.{Site, kind_at}
-use Rattle.smithy_schema.specs.Reading.{Cursor, in_structure, IsLawful, Reader}
-use Rattle.smithy_schema.specs.Consuming.{Consumes, IsTaken, by_member}
+use Rattle.smithy_schema.specs.Reading.{Cursor, ContainerKind, in_structure, IsLawful, Reader}
+use Rattle.smithy_schema.specs.Consuming.{Route, Call, Consumes, unopened, entered, IsTaken, by_member}
 use Rattle.smithy_schema.specs.Fields.{TakesField, members_at, structure_with}
 use Rattle.smithy_schema.specs.Typed.{ReadsDueAs}
 use Rattle.smithy_schema.proofs.ReadFields.{members_read, members_refused}
 use Rattle.smithy_schema.proofs.AnsweredErrors.{fields_fail, same_success, same_failure}
+
+on_ok : {P : Type 0} (result : Result (Unit {0}) SerdeError) → P → OnOk result P
+on_ok (Ok done) holds = holds
+on_ok (Err e) holds = tt
+
+-- what a call with a consumer reads was due
+pub was_due : {K C : Type 0} {r : Reader} {site : Site} {within : ContainerKind} {route : Route K} {call : Call K C} {s t : C} {c g : Cursor} (result : Result (Unit {0}) SerdeError)
+    → Consumes r site within route call s c result t g → OnOk result (c.due ≡ true)
+was_due result (unopened why) = tt
+was_due result (entered sound due enters along) = on_ok result due
 
 module _ {C : Type 0} (fields : C → List (Option Value)) (r : Reader) (outer : Site) (laws : IsLawful r.wire) (is_structure : IsStructure (kind_at outer)) (s t : C) (c g : Cursor) where
   -- the structure was read
@@ -19,6 +29,7 @@ module _ {C : Type 0} (fields : C → List (Option Value)) (r : Reader) (outer :
       record {
         ok = members_read fields r outer laws is_structure s t c g (Ok tt) fresh consumes taken;
         refused = λ fault. absurd fault;
+        undue = λ none. let due : c.due ≡ true = was_due (Ok tt) consumes in let clash : true ≡ false = sym due ∙ none in cc;
         fails = same_success tt t c g (fields_fail fields r outer s t c g (Ok tt) consumes tt);
       }
 
@@ -28,5 +39,6 @@ module _ {C : Type 0} (fields : C → List (Option Value)) (r : Reader) (outer :
   structure_fails e consumes broken = record {
     ok = tt;
     refused = members_refused fields r outer laws is_structure s t c g (Err e) consumes e refl;
+    undue = λ none. refl;
     fails = same_failure c g e (fields_fail fields r outer s t c g (Err e) consumes broken);
   }

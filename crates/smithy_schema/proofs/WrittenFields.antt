@@ -7,7 +7,8 @@ use Rattle.smithy_shapes.specs.Site.{Site, element_of}
 use Rattle.smithy_declarations.specs.Value.{Value, list, structure, MemberValues, values_of}
 use Rattle.smithy_schema.specs.Errors.{IsFault}
 use Rattle.smithy_schema.specs.Writing.{Event, Writer, Open, open_structure, open_list, begin_structure, end_structure, begin_list, end_list, IsNested, after_value, run, events, element_events, member_events}
-use Rattle.smithy_schema.specs.Written.{outcome, Runs, ran, broke, IsInside, AddsInside, Wraps, whole, not_begun, not_written, not_ended}
+use Rattle.smithy_schema.specs.Written.{outcome, Runs, ran, broke, IsInside, AddsInside, Wraps, WritesContainer, whole, not_begun, not_written, not_ended}
+use Rattle.smithy_schema.specs.Typed.{WritesWhole}
 use Rattle.smithy_schema.specs.Fields.{field_events, members_at}
 use Rattle.smithy_schema.proofs.WritingLemmas.{call_made, call_refused, child_written, child_refused}
 use Rattle.smithy_schema.proofs.OpenLemmas.{value_leaves}
@@ -24,6 +25,9 @@ same_lists a b h = cc
 
 other_error : {S : Type 0} (e f : SerdeError) → ◌≡◌ {A = Result S SerdeError} (Err e) (Err f) → e ≡ f
 other_error e f h = cc
+
+unit_error : (e f : SerdeError) → ◌≡◌ {A = Result (Unit {0}) SerdeError} (Err e) (Err f) → e ≡ f
+unit_error e f h = cc
 
 pub runs_ok : {S : Type 0} (after : Writer S) (es : List Event) (s : S) (r : Result S SerdeError) → Runs after es s r → (t : S) → r ≡ Ok t → run after es s ≡ Ok t
 runs_ok after es s r (ran {t = u} is) t same = is ∙ same
@@ -132,6 +136,47 @@ wrapped_runs after begins ends es had s r sound (not_ended {t = t} {u = u} {e = 
 pub structure_runs : {S : Type 0} (after : Writer S) (site : Site) (ms : MemberValues) (had : Bool) (s : S) (r : Result S SerdeError) → had ≡ false
     → Wraps after (begin_structure site) end_structure (Runs after (member_events site ms)) had s r → Runs after (events site (structure ms)) s r
 structure_runs after site ms had s r sound wraps = wrapped_runs after (begin_structure site) end_structure (member_events site ms) had s r sound wraps
+
+never_failed : {S : Type 0} (after : Writer S) (es : List Event) (s : S) (r : Result S SerdeError) → Runs after es s r → (e : SerdeError) → r ≡ Err e → e ≡ Failed → ⊥
+never_failed after es s r (ran is) e same = λ failed. absurd (let h = same in cc)
+never_failed after es s r (broke {e = f} sound fault) e same = λ failed. sound (other_error f e same ∙ failed)
+
+not_both : {P : Type 0} (b : Bool) → b ≡ false → b ≡ true → P
+not_both b no yes = absurd (let clash : false ≡ true = sym no ∙ yes in cc)
+
+-- the error that comes after a failure comes from the first call alone
+wraps_failed : {S : Type 0} (after : Writer S) (begins ends : Event) (es : List Event) (had : Bool) (s : S) (r : Result S SerdeError) → Wraps after begins ends (Runs after es) had s r → (e : SerdeError) → r ≡ Err e
+    → (e ≡ Failed) ↔ (had ≡ true)
+wraps_failed after begins ends es had s r (whole live begun added ended) e same = absurd (let h = same in cc)
+wraps_failed after begins ends es had s r (not_begun {e = f} why) e same = subst (λ x. (x ≡ Failed) ↔ (had ≡ true)) (other_error f e same) why.failed
+wraps_failed after begins ends es had s r (not_written {t = t} {e = f} live begun added) e same =
+    (λ is. absurd (never_failed after es t (Err f) added f refl (other_error f e same ∙ is)), λ failed. not_both had live failed)
+wraps_failed after begins ends es had s r (not_ended {e = f} live begun added why) e same =
+    (λ is. not_both false refl (why.failed.0 (other_error f e same ∙ is)), λ failed. not_both had live failed)
+
+wraps_sound : {S : Type 0} (after : Writer S) (begins ends : Event) (es : List Event) (had : Bool) (s t : S) (r : Result S SerdeError) → Wraps after begins ends (Runs after es) had s r → r ≡ Ok t → had ≡ false
+wraps_sound after begins ends es had s t r (whole live begun added ended) same = live
+wraps_sound after begins ends es had s t r (not_begun why) same = absurd (let h = same in cc)
+wraps_sound after begins ends es had s t r (not_written live begun added) same = live
+wraps_sound after begins ends es had s t r (not_ended live begun added why) same = live
+
+-- what a call says that hands these members to `write_struct`
+pub structure_written : {S : Type 0} (after : Writer S) (open_in : S → List Open) (site : Site) (ms : MemberValues) (had has : Bool) (s t : S) (r : Result (Unit {0}) SerdeError)
+    → WritesContainer after open_in (begin_structure site) end_structure (Runs after (member_events site ms)) s had t has r → WritesWhole after open_in (events site (structure ms)) s had t has r
+structure_written after open_in site ms had has s t r writes = record {
+  runs = λ sound. structure_runs after site ms had s (outcome r t) sound writes.wraps;
+  nests = writes.nests;
+  failed = by_result r writes.wraps;
+  broken = writes.broken;
+}
+  where
+    by_result : (r : Result (Unit {0}) SerdeError) → Wraps after (begin_structure site) end_structure (Runs after (member_events site ms)) had s (outcome r t) → IsErrOf r Failed ↔ (had ≡ true)
+    by_result (Ok done) wraps =
+        let sound = wraps_sound after (begin_structure site) end_structure (member_events site ms) had s t (Ok t) wraps refl in
+        (λ is. absurd (let h : ◌≡◌ {A = Result (Unit {0}) SerdeError} (Ok done) (Err Failed) = is in cc), λ failed. not_both had sound failed)
+    by_result (Err e) wraps =
+        let so = wraps_failed after (begin_structure site) end_structure (member_events site ms) had s (Err e) wraps e refl in
+        (λ is. so.0 (unit_error e Failed is), λ failed. ap Err (so.1 failed))
 
 -- of a list whose elements were handed over with their schema
 pub list_runs : {S T : Type 0} (after : Writer S) (site inner : Site) (f : T → Value) (ts us : List T) (n : ℕ) (had : Bool) (s : S) (r : Result S SerdeError) → had ≡ false → inner ≡ element_of site → us ≡ ts → n ≡ length ts

@@ -44,46 +44,46 @@ refused_before text w s refused = λ done. subst (Refuses text w) done refused
 pub unloaded_before : (a b : Shown) (s : kept.Status) → FailsToLoad a b s → s ≢ statuses.Done
 unloaded_before a b s fails = λ done. subst (FailsToLoad a b) done fails
 
-usage_is_none : (task : Task) (old_file new_file old_out new_out : Shown) (kept_back : Bool) (old_err new_err : Shown) (held : Bool)
-    → TaskAnswer task old_file new_file old_out new_out kept_back old_err new_err held statuses.Usage → ⊥
-usage_is_none task old_file new_file old_out new_out kept_back old_err new_err held (inl fails) = fails.0
-usage_is_none task old_file new_file old_out new_out kept_back old_err new_err held (inr (text, loaded, inl refused)) = refused.0
-usage_is_none task old_file new_file old_out new_out kept_back old_err new_err held (inr (text, loaded, inr (m, table, left, is, made, handed, line))) = handed
+usage_is_none : (task : Task) (old_file new_file old_out new_out : Shown) (was_back kept_back : Bool) (old_err new_err : Shown) (held : Bool)
+    → TaskAnswer task old_file new_file old_out new_out was_back kept_back old_err new_err held statuses.Usage → ⊥
+usage_is_none task old_file new_file old_out new_out was_back kept_back old_err new_err held (inl fails) = fails.0
+usage_is_none task old_file new_file old_out new_out was_back kept_back old_err new_err held (inr (text, loaded, well, inl refused)) = refused.0
+usage_is_none task old_file new_file old_out new_out was_back kept_back old_err new_err held (inr (text, loaded, well, inr (m, table, left, is, made, handed, line))) = handed
 
 -- no task ends with the status of wrong words
-pub never_usage : (task : Task) (old_file new_file old_out new_out : Shown) (kept_back : Bool) (old_err new_err : Shown) (held : Bool) (s : kept.Status)
-    → TaskAnswer task old_file new_file old_out new_out kept_back old_err new_err held s → s ≢ statuses.Usage
-never_usage task old_file new_file old_out new_out kept_back old_err new_err held s says =
-    λ usage. usage_is_none task old_file new_file old_out new_out kept_back old_err new_err held
-    (subst (λ (t : kept.Status). TaskAnswer task old_file new_file old_out new_out kept_back old_err new_err held t) usage says)
+pub never_usage : (task : Task) (old_file new_file old_out new_out : Shown) (was_back kept_back : Bool) (old_err new_err : Shown) (held : Bool) (s : kept.Status)
+    → TaskAnswer task old_file new_file old_out new_out was_back kept_back old_err new_err held s → s ≢ statuses.Usage
+never_usage task old_file new_file old_out new_out was_back kept_back old_err new_err held s says =
+    λ usage. usage_is_none task old_file new_file old_out new_out was_back kept_back old_err new_err held
+    (subst (λ (t : kept.Status). TaskAnswer task old_file new_file old_out new_out was_back kept_back old_err new_err held t) usage says)
 
 -- what words that ask for a task answer
-pub of_task : (words : List (List ℕ)) (task : Task) (old new : List ℕ → Shown) (old_out new_out old_err new_err : Shown) (kept_back held : Bool) (code : ℕ) (s : kept.Status)
+pub of_task : (words : List (List ℕ)) (task : Task) (old new : List ℕ → Shown) (old_out new_out old_err new_err : Shown) (was_back kept_back held : Bool) (code : ℕ) (s : kept.Status)
     → command_of words ≡ Some task → code ≡ status_code s
-    → TaskAnswer task (old task.model_path) (new task.model_path) old_out new_out kept_back old_err new_err held s
-    → RunAnswer words old new old_out new_out old_err new_err kept_back held code
-of_task words task old new old_out new_out old_err new_err kept_back held code s asked has says = record {
+    → TaskAnswer task (old task.model_path) (new task.model_path) old_out new_out was_back kept_back old_err new_err held s
+    → RunAnswer words old new old_out new_out old_err new_err was_back kept_back held code
+of_task words task old new old_out new_out old_err new_err was_back kept_back held code s asked has says = record {
   status = s;
   has_code = has;
   is_usage = (
-    λ usage. absurd (never_usage task (old task.model_path) (new task.model_path) old_out new_out kept_back old_err new_err held s says usage),
+    λ usage. absurd (never_usage task (old task.model_path) (new task.model_path) old_out new_out was_back kept_back old_err new_err held s says usage),
     λ none. absurd (cc (none, asked)),
   );
   answers = λ t is.
       let same : task ≡ t = cc (asked, is) in
-      subst (λ (u : Task). TaskAnswer u (old u.model_path) (new u.model_path) old_out new_out kept_back old_err new_err held s) same says;
+      subst (λ (u : Task). TaskAnswer u (old u.model_path) (new u.model_path) old_out new_out was_back kept_back old_err new_err held s) same says;
   only_for_a_task = λ none. absurd (cc (none, asked));
 }
 
 -- words that ask for none
 pub of_no_task : (words : List (List ℕ)) (files : List ℕ → Shown) (out old_err new_err : Shown) (kept_back held : Bool) (code : ℕ) → command_of words ≡ None
-    → code ≡ status_code statuses.Usage → TookLine (line_of statuses.Usage) old_err new_err held → RunAnswer words files files out out old_err new_err kept_back held code
+    → code ≡ status_code statuses.Usage → TookLine (line_of statuses.Usage) old_err new_err held → RunAnswer words files files out out old_err new_err kept_back kept_back held code
 of_no_task words files out old_err new_err kept_back held code none has line = record {
   status = statuses.Usage;
   has_code = has;
   is_usage = (λ usage. none, λ asked. refl);
   answers = λ task asked. absurd (cc (none, asked));
-  only_for_a_task = λ is. (refl, refl, line);
+  only_for_a_task = λ is. (refl, (refl, refl), line);
 }
 
 not_done : statuses.Usage ≢ statuses.Done

@@ -1,5 +1,5 @@
 -- How the process ends, by its arguments.
-use Rattle.std.specs.Prelude.{◌≡◌, ◌⊎◌, ℕ, List, Bool}
+use Rattle.std.specs.Prelude.{◌≡◌, ◌⊎◌, ℕ, List, Bool, false}
 use Rattle.std.specs.declared.io.ErrorKind.{ErrorKind}
 use Rattle.smithy_outside.specs.Outside.{Shown, TookLine}
 use Rattle.smithy_outside.specs.Os.{only_counts, IsUnread}
@@ -8,7 +8,7 @@ use Rattle.smithy_table_commands.specs.declared.status.Status.TheVariants.{Usage
 use Rattle.smithy_table_commands.specs.Status.{status_code, line_of}
 use Rattle.smithy_table_commands.specs.RunAnswer.{RunAnswer}
 
--- what the real files and streams tell before a run: none of them met a fault
+-- what the real files and streams tell before a run: none of them met a fault, and the output holds nothing back
 abbrev pub at_start : Shown
 at_start = only_counts 0
 
@@ -21,7 +21,7 @@ EndsWithLine status code =
 abbrev pub EndsAsRun : List (List ℕ) → ℕ → Type 0
 EndsAsRun words code =
     ((files : List ℕ → Shown) × (out err : Shown) × (out_holds_back err_holds_back : Bool)
-    × RunAnswer words (λ path. at_start) files at_start out at_start err out_holds_back err_holds_back code)
+    × RunAnswer words (λ path. at_start) files at_start out at_start err false out_holds_back err_holds_back code)
     ⊎ EndsWithLine OutOfMemory code
 
 -- a process whose arguments weren't read ends with this status

@@ -101,7 +101,8 @@ pub(crate) fn write_last<E: Sink>(err: &mut E, status: Status<'_>) -> Result<(),
 
 /// Says how a run ended, unless the table is written. That standard error fails is said nowhere.
 pub fn report<E: Sink>(err: &mut E, status: Status<'_>)
-    ensures { status.entry ≢ Status.Done → TookLine (line_of status.entry) (E.told err.old) (E.told err.new) (E.holds_back err.new) }
+    ensures untouched { status.entry ≡ Status.Done → (E.told err.new ≡ E.told err.old) × (E.holds_back err.new ≡ E.holds_back err.old) }
+    ensures line { status.entry ≢ Status.Done → TookLine (line_of status.entry) (E.told err.old) (E.told err.new) (E.holds_back err.new) }
 {
     match status {
         Status::Done => {}

@@ -1,9 +1,10 @@
 //! One run of the program.
-ghost use Rattle.std.specs.Prelude.{◌≡◌, map, string_bytes, IfOk, IfErr};
+ghost use Rattle.std.specs.Prelude.{◌≡◌, map, string_bytes, IfOk, IfErr, OnOk};
 ghost use Rattle.smithy_model.specs.Model.{Model};
 ghost use Rattle.smithy_model.specs.Reading.{IsModelText};
 ghost use Rattle.smithy_model_table.specs.ModelTable.{IsTableOf};
 ghost use Rattle.smithy_model_table.specs.Views.{left_view, wanted_view};
+ghost use Rattle.smithy_outside.specs.Outside.{MetNoFault};
 ghost use Rattle.smithy_table_commands.specs.declared.status.Status as kept;
 ghost use Rattle.smithy_table_commands.specs.RunAnswer.{IsLoaded, FailsToLoad, Refuses, HandsOut, SaysOf, TaskAnswer, RunAnswer};
 ghost use Rattle.smithy_table_commands.specs.Status.{status_code};
@@ -29,6 +30,7 @@ fn load_model<F: Files>(
     path: &str,
 ) -> Result<Vec<u8>, Status<'static>>
     ensures loaded { IfOk result (λ text. IsLoaded text.items (F.told files.old path.now)) }
+    ensures well { OnOk result (MetNoFault (F.told files.old path.now) (F.told files.new path.now)) }
     ensures refused { IfErr result (FailsToLoad (F.told files.old path.now) (F.told files.new path.now)) }
 {
     Ok(files.load(alloc, path, MAX_MODEL_LEN)?)
@@ -51,7 +53,7 @@ fn table_from<'a>(
 
 // Writes a table, where the words allow it.
 fn hand_out<'a, K: Sink>(table: &ModelTable<'a>, is_partial: bool, out: &mut K) -> Status<'a>
-    ensures { HandsOut table.now.text.items (map left_view table.now.left.items) is_partial (K.told out.old) (K.told out.new) (K.holds_back out.new) result }
+    ensures { HandsOut table.now.text.items (map left_view table.now.left.items) is_partial (K.told out.old) (K.told out.new) (K.holds_back out.old) (K.holds_back out.new) result }
 {
     if is_forbidden(&table.left, is_partial) {
         return Status::LeftOut;
@@ -71,7 +73,7 @@ fn status_of<'a, K: Sink, E: Sink>(
     out: &mut K,
     err: &mut E,
 ) -> Status<'a>
-    ensures { SaysOf text.now (task_view task.entry) (K.told out.old) (K.told out.new) (K.holds_back out.new)
+    ensures { SaysOf text.now (task_view task.entry) (K.told out.old) (K.told out.new) (K.holds_back out.old) (K.holds_back out.new)
         (E.told err.old) (E.told err.new) (E.holds_back err.new) result }
 {
     match table_from(alloc, text, scratch, task.wanted) {
@@ -96,7 +98,7 @@ fn perform<F: Files, K: Sink, E: Sink>(
     err: &mut E,
 ) -> u8
     ensures { (status : kept.Status) × (result ≡ status_code status) × TaskAnswer (task_view task.entry) (F.told files.old (task_view task.entry).model_path) (F.told files.new (task_view task.entry).model_path)
-        (K.told out.old) (K.told out.new) (K.holds_back out.new) (E.told err.old) (E.told err.new) (E.holds_back err.new) status }
+        (K.told out.old) (K.told out.new) (K.holds_back out.old) (K.holds_back out.new) (E.told err.old) (E.told err.new) (E.holds_back err.new) status }
 {
     let text = match load_model(alloc, files, task.model) {
         Ok(text) => text,
@@ -120,7 +122,7 @@ pub fn run<F: Files, K: Sink, E: Sink>(
     err: &mut E,
 ) -> u8
     ensures { RunAnswer (map string_bytes words.now) (F.told files.old) (F.told files.new) (K.told out.old) (K.told out.new)
-        (E.told err.old) (E.told err.new) (K.holds_back out.new) (E.holds_back err.new) result }
+        (E.told err.old) (E.told err.new) (K.holds_back out.old) (K.holds_back out.new) (E.holds_back err.new) result }
 {
     match Task::from_words(words) {
         Some(task) => perform(alloc, task, files, out, err),

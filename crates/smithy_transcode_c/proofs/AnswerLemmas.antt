@@ -5,7 +5,7 @@ use Rattle.std.proofs.Math.Seq.{take-append_seam, drop-append-add}
 use Rattle.smithy_declarations.specs.Table.{Table}
 use Rattle.smithy_transcode.specs.Wires.{Wire}
 use Rattle.smithy_transcode_c.specs.Calls.{Asked, IsMeant, StandsFirst}
-use Rattle.smithy_transcode_c.specs.Bodies.{AreAnswered, none, more, BodiesAnswer, HasAnswers, Inputs, IsAnswered, Memory, StopsAt, begin_of, end_of}
+use Rattle.smithy_transcode_c.specs.Bodies.{AreAnswered, none, more, BodiesAnswer, HasAnswers, Inputs, IsAnswered, LiesIn, Memory, StopsAt, begin_of, end_of}
 
 -- what is put behind those that stand first stands first with them
 stands_more : (xs ys before after : List ℕ) (n : ℕ) → StandsFirst xs before after → n ≡ length xs + length ys → n ≤ length before
@@ -38,7 +38,7 @@ stands_one_more xs before after i y s long fits =
 answered_long : {table : Table} {root : ℕ} {from to : Wire} {ends input : List ℕ} {n : ℕ} {out_ends statuses bytes : List ℕ}
     → AreAnswered table root from to ends input n out_ends statuses bytes → (length out_ends ≡ n) × (length statuses ≡ n)
 answered_long none = (refl, refl)
-answered_long (more n out_ends statuses bytes status body before is) =
+answered_long (more n out_ends statuses bytes status body before lies is) =
     let long = answered_long before in (
       length-append out_ends ((length bytes + length body) ∷ []) ∙ ap (λ m. m + 1) long.0,
       length-append statuses (status ∷ []) ∙ ap (λ m. m + 1) long.1,
@@ -59,20 +59,20 @@ answers_none table root from to given before = record {
 
 -- the next one, behind those that are
 pub answers_more : {table : Table} {root : ℕ} {from to : Wire} {given : Inputs} {before : Memory} (after : Memory) (i at next status : ℕ) (body out : List ℕ)
-    → HasAnswers table root from to given before after i at
+    → HasAnswers table root from to given before after i at → LiesIn given.ends given.bytes i
     → IsAnswered table root from to (slice_range given.bytes (begin_of given.ends i) (end_of given.ends i)) status body
     → next ≡ at + length body → next ≤ length after.out → i < length after.out_ends → i < length after.statuses
     → out ≡ take at after.out ++ (body ++ drop next after.out)
     → HasAnswers table root from to given before
     (record { out_ends = slice_set after.out_ends i next; statuses = slice_set after.statuses i status; out = out }) (i + 1) next
-answers_more {before = before} after i at next status body out h is sum fits place told put =
+answers_more {before = before} after i at next status body out h lies is sum fits place told put =
     let counted = answered_long h.are in
     let end : next ≡ length h.bytes + length body = sum ∙ ap (λ n. n + length body) h.long in
     record {
       out_ends = h.out_ends ++ (length h.bytes + length body) ∷ [];
       statuses = h.statuses ++ status ∷ [];
       bytes = h.bytes ++ body;
-      are = more i h.out_ends h.statuses h.bytes status body h.are is;
+      are = more i h.out_ends h.statuses h.bytes status body h.are lies is;
       long = end ∙ sym (length-append h.bytes body);
       ends_put = subst (λ v. StandsFirst (h.out_ends ++ v ∷ []) before.out_ends (slice_set after.out_ends i next)) end
           (stands_one_more h.out_ends before.out_ends after.out_ends i next h.ends_put counted.0 (omega (arith, stands_long h.out_ends before.out_ends after.out_ends h.ends_put, place)));

@@ -15,6 +15,10 @@ begin_of ends n = slice_index_or (0 ∷ ends) n 0
 abbrev pub end_of : (ends : List ℕ) → ℕ → ℕ
 end_of ends n = slice_index_or ends n 0
 
+-- the body of this number ends in the input, and not before it begins
+abbrev pub LiesIn : (ends input : List ℕ) → ℕ → Type 0
+LiesIn ends input n = (begin_of ends n ≤ end_of ends n) × (end_of ends n ≤ length input)
+
 -- what becomes of one answer: its status, and its bytes, of which a refusal has none
 abbrev pub IsPut : Answer → (status : ℕ) → (bytes : List ℕ) → Type 0
 IsPut (Ok body) status bytes = (status ≡ 0) × (bytes ≡ body.items)
@@ -25,11 +29,11 @@ abbrev pub IsAnswered : Table → (root : ℕ) → (from to : Wire) → (input :
 IsAnswered table root from to input status bytes =
     (answer : Answer) × Transcodes table root from input to answer × IsPut answer status bytes
 
--- so many bodies are answered, each by its own: their statuses, their bytes one behind another, and where each of them ends
+-- so many bodies are answered, each of which lies in the input, by its own: their statuses, their bytes one behind another, and where each of them ends
 pub data AreAnswered (table : Table) (root : ℕ) (from to : Wire) (ends input : List ℕ) : (count : ℕ) → (out_ends statuses bytes : List ℕ) → Type 0 where
   none : AreAnswered table root from to ends input 0 [] [] []
   more : (n : ℕ) (out_ends statuses bytes : List ℕ) (status : ℕ) (body : List ℕ) → AreAnswered table root from to ends input n out_ends statuses bytes
-      → IsAnswered table root from to (slice_range input (begin_of ends n) (end_of ends n)) status body
+      → LiesIn ends input n → IsAnswered table root from to (slice_range input (begin_of ends n) (end_of ends n)) status body
       → AreAnswered table root from to ends input (n + 1) (out_ends ++ (length bytes + length body) ∷ []) (statuses ++ status ∷ []) (bytes ++ body)
 
 -- what a call over many bodies is given: their bytes one behind another, and where each of them ends
@@ -54,15 +58,16 @@ pub record HasAnswers (table : Table) (root : ℕ) (from to : Wire) (given : Inp
   pub statuses_put : StandsFirst statuses before.statuses after.statuses
   pub bytes_put : StandsFirst bytes before.out after.out
 
--- why a call goes no further than so many bodies: there are no more; the next has no end, or no place for its status and its end; or
--- its body is longer than the room that is left
+-- why a call goes no further than so many bodies: there are no more; the next doesn't lie in the input, or has no place for its status
+-- and its end; or it lies there and has its place, and its body is longer than the room that is left
 abbrev pub StopsAt : Table → (root : ℕ) → (from to : Wire) → Inputs → Memory → (count len number : ℕ) → Type 0
 StopsAt table root from to given m count len number =
     ((number ≡ 0) × (count ≡ length given.ends))
     ⊎ ((number ≡ 2) × (count < length given.ends)
     × ((end_of given.ends count < begin_of given.ends count) ⊎ (length given.bytes < end_of given.ends count)
     ⊎ (length m.out_ends ≤ count) ⊎ (length m.statuses ≤ count)))
-    ⊎ ((number ≡ 24) × (count < length given.ends)
+    ⊎ ((number ≡ 24) × (count < length given.ends) × LiesIn given.ends given.bytes count
+    × (count < length m.out_ends) × (count < length m.statuses)
     × ((status : ℕ) × (body : List ℕ) × IsAnswered table root from to (slice_range given.bytes (begin_of given.ends count) (end_of given.ends count)) status body
     × (length m.out < len + length body)))
 

@@ -1,5 +1,5 @@
 -- What a call of the library asks for, and what it answers.
-use Rattle.std.specs.Prelude.{◌≡◌, ◌⊎◌, ◌≤◌, ◌<◌, ◌==◌, ◌++◌, ℕ, List, length, drop, true, false, Option, Some, None, option_map, option_and_then, Ok, Err, if◌then◌else◌}
+use Rattle.std.specs.Prelude.{◌≡◌, ◌≢◌, ◌⊎◌, ◌≤◌, ◌<◌, ◌==◌, ◌++◌, ℕ, List, length, drop, true, false, Option, Some, None, option_map, option_and_then, Ok, Err, if◌then◌else◌}
 use Rattle.std.specs.Str.{is_utf8}
 use Rattle.smithy_declarations.specs.Acceptance.{Fault, refused, table_of}
 use Rattle.smithy_declarations.specs.Table.{Table, IsStructure, kind_of, shape_place, declared_as}
@@ -63,11 +63,15 @@ RefusesRoot table name NotAStructure =
     (root : ℕ) × (declared_as table name ≡ Some root) × ¬ IsStructure (kind_of table (shape_place root))
 RefusesRoot table name _ = ⊥
 
--- why a call has nothing to transcode
+-- both numbers are those of a wire
+abbrev pub HasWires : Asked → Type 0
+HasWires asked = (source_wire asked.from ≢ None) × (target_wire asked ≢ None)
+
+-- why a call has nothing to transcode: the wires come before the root, and memory is wanted for none that is missing
 abbrev pub Refuses : Table → Asked → Refusal → Type 0
 Refuses table asked Usage = (source_wire asked.from ≡ None) ⊎ (target_wire asked ≡ None)
-Refuses table asked OutOfMemory = Unit {0}
-Refuses table asked status = RefusesRoot table asked.root_name status
+Refuses table asked OutOfMemory = HasWires asked
+Refuses table asked status = HasWires asked × RefusesRoot table asked.root_name status
 
 -- these stand at the front of the caller's memory, behind which all stays as it was
 abbrev pub StandsFirst : (items before after : List ℕ) → Type 0

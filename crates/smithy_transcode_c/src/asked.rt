@@ -1,5 +1,5 @@
 //! What a call asks for.
-ghost use Rattle.std.specs.Prelude.{◌≡◌, Some, option_map, IfOk, IfErr};
+ghost use Rattle.std.specs.Prelude.{◌≡◌, ◌≢◌, Some, None, option_map, IfOk, IfErr, OnErr};
 ghost use Rattle.smithy_declarations.specs.Table.{IsStructure, kind_of, shape_place, declared_as};
 ghost use Rattle.smithy_transcode.specs.Wires.{wire_of};
 ghost use Rattle.smithy_transcode_c.specs.Calls.{IsMeant, Refuses, RefusesRoot, common_wire, source_wire, form_of, target_wire, text_of};
@@ -81,7 +81,8 @@ fn text_of(bytes: &[u8]) -> Option<&str>
 
 // The form of an action and a version, where they are texts.
 fn form_of(alloc: Global, action: &[u8], version: &[u8]) -> Result<Option<Wire>, AllocError>
-    ensures { IfOk result (λ wire. option_map wire_of wire ≡ form_of action.now version.now) }
+    ensures form { IfOk result (λ wire. option_map wire_of wire ≡ form_of action.now version.now) }
+    ensures memory { OnErr result (form_of action.now version.now ≢ None) }
 {
     let Some(action) = text_of(action) else {
         return Ok(None);
@@ -115,7 +116,8 @@ fn find_root(table: &Shapes, name: &[u8]) -> Result<ShapeRef, Refusal>
 impl Asked<'_> {
     // The wire to which bodies are written.
     fn target_wire(&self, alloc: Global) -> Result<Option<Wire>, AllocError>
-        ensures { IfOk result (λ wire. option_map wire_of wire ≡ target_wire (asked_of self.now)) }
+        ensures wire { IfOk result (λ wire. option_map wire_of wire ≡ target_wire (asked_of self.now)) }
+        ensures memory { OnErr result (target_wire (asked_of self.now) ≢ None) }
     {
         match self.to {
             3 => form_of(alloc, self.action, self.version),

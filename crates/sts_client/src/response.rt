@@ -1,10 +1,9 @@
 //! What AssumeRole answers.
-ghost use Rattle.std.specs.Prelude.{◌≡◌, false, OnOk};
+ghost use Rattle.std.specs.Prelude.{◌≡◌, OnOk};
 ghost use Rattle.smithy_shapes.specs.Site.{site_of};
 ghost use Rattle.smithy_schema.specs.Consuming.{IsTaken};
-ghost use Rattle.smithy_schema.specs.Typed.{ReadsDueAs};
+ghost use Rattle.smithy_schema.specs.Typed.{ReadsDueAs, WritesWhole};
 ghost use Rattle.smithy_schema.specs.Writing.{events};
-ghost use Rattle.smithy_schema.specs.Written.{Runs, outcome};
 ghost use Rattle.smithy_schema.specs.Fields.{structure_with};
 ghost use Rattle.sts_client.specs.Shapes.{IsUser, user_fields, IsResponse, response_fields};
 
@@ -222,7 +221,7 @@ pub fn write_response<S: ShapeSerializer>(
     response: &AssumeRoleResponse,
 ) -> Result<(), SerdeError>
     // The members that are there are written in the table's order; a fault is that of this very run of calls.
-    ensures { S.failed sink.old ≡ false → Runs S.after (events (site_of schema.now) (structure_with (response_fields response.now))) (S.state sink.old) (outcome result (S.state sink.new)) }
+    ensures { WritesWhole S.after S.open_in (events (site_of schema.now) (structure_with (response_fields response.now))) (S.state sink.old) (S.failed sink.old) (S.state sink.new) (S.failed sink.new) result }
 {
     let written = Written {
         shape: *schema,

@@ -9,7 +9,7 @@ pub returns-then-is_forbidden : goal.returns-then-is_forbidden
 returns-then-is_forbidden g c =
     let forbidden = subst (λ (left : List kept.Left). is_forbidden (map left_view left) c.args.is_partial ≡ true) c.deref.ensures.value
     (sym c.is_forbidden.ensures ∙ c.if-is_forbidden.true) in
-    (forbidden, refl)
+    (forbidden, (refl, refl))
 
 pub returns-in-Ok : goal.returns-in-Ok
 returns-in-Ok g c =

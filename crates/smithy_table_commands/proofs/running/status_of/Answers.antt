@@ -8,7 +8,7 @@ use Rattle.smithy_table_commands.proofs.running.status_of.Goals as goal
 
 pub returns-in-Err : goal.returns-in-Err
 returns-in-Err g c =
-    inl (c.in-Err.ensures.refused, refl, c.report.ensures (refused_before c.args.text.now (wanted_view c.args.task.wanted) c.in-Err.status c.in-Err.ensures.refused))
+    inl (c.in-Err.ensures.refused, (refl, refl), c.report.ensures.line (refused_before c.args.text.now (wanted_view c.args.task.wanted) c.in-Err.status c.in-Err.ensures.refused))
 
 pub returns-in-Ok : goal.returns-in-Ok
 returns-in-Ok g c =

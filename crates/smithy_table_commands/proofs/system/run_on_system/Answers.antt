@@ -1,4 +1,4 @@
-use Rattle.std.proofs.Common.{◌≡◌, ◌≢◌, ◌∙◌, inl, inr, ℕ, List, Bool, Result, Ok, Err, IfErr, IfOk, map, string_bytes, String, sym, subst}
+use Rattle.std.proofs.Common.{◌≡◌, ◌≢◌, ◌∙◌, inl, inr, ℕ, List, Bool, Result, Ok, Err, IfErr, IfOk, map, string_bytes, String, false, sym, subst}
 use Rattle.std.specs.declared.alloc.Global.{Global}
 use Rattle.std.specs.declared.io.Error.{Error}
 use Rattle.std.specs.declared.io.ErrorKind.{ErrorKind}
@@ -20,11 +20,11 @@ abbrev Arguments : Type 0
 Arguments = Result (IntoIter (String Global) Global) Error
 
 -- a run over files and streams that met no fault before
-ends_as_run : (words : List (List ℕ)) (files out err : ℕ) (new : List ℕ → Shown) (new_out new_err : Shown) (out_held err_held : Bool) (ran code : ℕ)
-    → files ≡ 0 → out ≡ 0 → err ≡ 0 → code ≡ ran
-    → RunAnswer words (λ path. only_counts files) new (only_counts out) new_out (only_counts err) new_err out_held err_held ran → EndsAsRun words code
-ends_as_run words files out err new new_out new_err out_held err_held ran code f o e is answer =
-    subst (EndsAsRun words) (sym is) (inl (new, new_out, new_err, out_held, err_held, rw (f, o, e) at answer))
+ends_as_run : (words : List (List ℕ)) (files out err : ℕ) (new : List ℕ → Shown) (new_out new_err : Shown) (was_held out_held err_held : Bool) (ran code : ℕ)
+    → files ≡ 0 → out ≡ 0 → err ≡ 0 → was_held ≡ false → code ≡ ran
+    → RunAnswer words (λ path. only_counts files) new (only_counts out) new_out (only_counts err) new_err was_held out_held err_held ran → EndsAsRun words code
+ends_as_run words files out err new new_out new_err was_held out_held err_held ran code f o e h is answer =
+    subst (EndsAsRun words) (sym is) (inl (new, new_out, new_err, out_held, err_held, rw (f, o, e, h) at answer))
 
 -- a line, and no run
 ends_with_line : (status : Status) (err : ℕ) (behind : Shown) (held : Bool) (code : ℕ) → status ≢ Done → err ≡ 0
@@ -69,8 +69,8 @@ returns g c =
     (sym c.deref.ensures.value) c.in-Ok.ensures.read in
     record {
       read = read_with_words c.args.arguments words code read
-          (ends_as_run words c.new-files.result.faults c.new-out.result.faults c.new-err.result.faults _ _ _ _ _ c.run-code.result code c.new-files.ensures c.new-out.ensures.faults
-          c.new-err.ensures.faults c.from-2.ensures c.run-code.ensures);
+          (ends_as_run words c.new-files.result.faults c.new-out.result.faults c.new-err.result.faults _ _ _ c.new-out.result.is_unfinished _ _ c.run-code.result code c.new-files.ensures c.new-out.ensures.faults
+          c.new-err.ensures.faults c.new-out.ensures.finished c.from-2.ensures c.run-code.ensures);
       unread = none_without_arguments c.args.arguments code c.in-Ok.ensures.unread;
     }
 
@@ -79,7 +79,7 @@ returns-in-Err g c =
     let status = c.in-Err.status in
     let code = exit_status c.from.result in
     let line : status ≢ Done → EndsWithLine status code = λ not_done. ends_with_line status c.new-err.result.faults (only_counts c.report.new.err.faults) c.report.new.err.is_unfinished code
-    not_done c.new-err.ensures.faults c.report.ensures (c.from.ensures ∙ c.code.ensures) in
+    not_done c.new-err.ensures.faults c.report.ensures.line (c.from.ensures ∙ c.code.ensures) in
     record {
       read = read_as_none c.args.arguments status code c.in-Err.ensures.read line;
       unread = unread_as_none c.args.arguments status code c.in-Err.ensures.unread line;

@@ -36,7 +36,14 @@ returns-in_default c =
     (record { out_ends = c.args.out_ends.now; statuses = c.args.statuses.now; out = c.args.out.now })
     (record { out_ends = c.loop-i.out_ends; statuses = c.loop-i.statuses; out = l }) i c.loop-i.at) (sym none.4) inv.answers in
     answers_some root from to i c.loop-i.at c.loop-i.done 24 inv.counted c.in-Ok.ensures.meant has
-    (inr (inr (refl, c.loop-i-test.true, (none.0, none.1, is, omega (arith, none.3, c.loop-i.auto.out)))))
+    (inr (inr (
+      refl,
+      c.loop-i-test.true,
+      (omega (arith, inv.begins, c.if-end-start.false), omega (arith, c.if-inputs-end.false)),
+      omega (arith, c.if-out_ends-i.false, c.loop-i.auto.out_ends),
+      omega (arith, c.if-statuses-i.false, c.loop-i.auto.statuses),
+      (none.0, none.1, is, omega (arith, none.3, c.loop-i.auto.out)),
+    )))
 
 pub loop-i-preserved : goal.loop-i-preserved
 loop-i-preserved c =
@@ -50,7 +57,7 @@ loop-i-preserved c =
     (slice_range bytes s (end_of ends i)) c.in-Some.status some.0) inv.begins some.1 in
     record {
       answers = answers_more (record { out_ends = c.loop-i.out_ends; statuses = c.loop-i.statuses; out = c.loop-i.out }) i c.loop-i.at c.in-Some.next c.in-Some.status some.0
-          c.put_next.new.out inv.answers is some.2 some.3 (omega (arith, c.if-out_ends-i.false)) (omega (arith, c.if-statuses-i.false)) some.4;
+          c.put_next.new.out inv.answers (omega (arith, inv.begins, c.if-end-start.false), omega (arith, c.if-inputs-end.false)) is some.2 some.3 (omega (arith, c.if-out_ends-i.false)) (omega (arith, c.if-statuses-i.false)) some.4;
       begins = sym (begin_next ends i);
       counted = refl;
       within = omega (arith, some.3, c.put_next.auto.out);

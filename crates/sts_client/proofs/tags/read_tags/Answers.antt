@@ -1,9 +1,10 @@
-use Rattle.std.proofs.Common.{◌≡◌, [], rules, refl, sym, ◌∙◌, subst}
+use Rattle.std.proofs.Common.{◌≡◌, [], true, false, Ok, rules, refl, sym, ◌∙◌, subst}
 use Rattle.std.proofs.lemmas.Result.{err_from_is_err_and}
 use Rattle.smithy_shapes.specs.Site.{site_of}
 use Rattle.smithy_shapes.specs.Lemmas.Options.{same_some}
 use Rattle.sts_client.specs.Shapes.{IsTag}
 use Rattle.smithy_schema.proofs.AnsweredErrors.{same_success, same_failure}
+use Rattle.smithy_schema.proofs.TypedReads.{was_due}
 use Rattle.sts_client.proofs.TagFacts.{through_tags, tags_read, tags_refused, tags_fail}
 use Rattle.sts_client.proofs.tags.read_tags.Goals as goal
 
@@ -22,6 +23,7 @@ returns-clause-reads g c =
     record {
       ok = tags_read r outer inner c.requires.place (sym c.in-Some.ensures) (g.met.D.ShapeDeserializer.lawful s) c.read_list.new.consumer.tags.items _ _ _ through;
       refused = λ fault. absurd fault;
+      undue = λ none. let due : (d.state c.args.source.now).due ≡ true = was_due (Ok tt) through in let clash : true ≡ false = sym due ∙ none in cc;
       fails = same_success _ _ _ _ (tags_fail r outer inner c.requires.place (sym c.in-Some.ensures) c.read_list.new.consumer.tags.items _ _ _ through tt);
     }
 
@@ -39,5 +41,6 @@ returns-in_err-read_list-clause-reads g c =
     (record {
       ok = tt;
       refused = λ fault due. tags_refused r outer inner c.requires.place (sym c.in-Some.ensures) (g.met.D.ShapeDeserializer.lawful s) c.read_list.new.consumer.tags.items _ _ _ through c.in_err-read_list.field-0.0 refl fault due;
+      undue = λ none. refl;
       fails = same_failure _ _ _ (tags_fail r outer inner c.requires.place (sym c.in-Some.ensures) c.read_list.new.consumer.tags.items _ _ _ through c.in_err-read_list.ensures.reads.fails);
     })
