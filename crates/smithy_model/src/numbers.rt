@@ -1,5 +1,5 @@
 //! The numbers of shapes by their ids.
-ghost use Rattle.std.specs.Prelude.{◌≡◌, None, Some, true, false, map, option_map, slice_get, bytes_eq, IfOk, IfSome};
+ghost use Rattle.std.specs.Prelude.{◌≡◌, ◌++◌, ◌∷◌, [], None, Some, true, false, map, option_map, slice_get, bytes_eq, IfOk, OnOk, IfSome};
 ghost use Rattle.std.specs.List.{list_any};
 ghost use Rattle.smithy_model.specs.Reading.{ids_of};
 ghost use Rattle.smithy_model.specs.Views.{shape_view, numbers_view};
@@ -60,14 +60,24 @@ impl<'a> Numbers<'a> {
     pub(crate) fn of(alloc: Global, shapes: &[Shape<'a>]) -> Result<Numbers<'a>, AllocError>
         ensures { IfOk result (λ numbers. numbers_view numbers ≡ ids_of (map shape_view shapes.now)) }
     {
-        let mut ids = Vec::with_capacity(alloc, shapes.len())?;
-        let mut places = Vec::with_capacity(alloc, shapes.len())?;
+        let mut numbers = Numbers {
+            ids: Vec::with_capacity(alloc, shapes.len())?,
+            places: Vec::new(alloc),
+        };
         for shape in shapes {
-            places.push(((hash_of(shape.id), shape.id), ids.len()))?;
-            ids.push(shape.id)?;
+            numbers.add(shape.id)?;
         }
-        places.sort_unstable();
-        Ok(Numbers { ids, places })
+        numbers.places.sort_unstable();
+        Ok(numbers)
+    }
+
+    // Adds an id under the next number.
+    fn add(&mut self, id: &'a str) -> Result<(), AllocError>
+        ensures { OnOk result (numbers_view self.new ≡ numbers_view self.old ++ id.now ∷ []) }
+    {
+        self.places.push(((hash_of(id), id), self.ids.len()))?;
+        self.ids.push(id)?;
+        Ok(())
     }
 
     /// The number under this id. That none is there is not proved to mean that no shape has the id.

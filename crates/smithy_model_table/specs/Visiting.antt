@@ -1,9 +1,13 @@
 -- Shapes that are visited one after the other.
 use Rattle.std.specs.Prelude.{◌≡◌, ◌==◌, ◌<◌, ◌≤◌, ◌+◌, ℕ, List, ◌++◌, Bool, length}
 use Rattle.std.specs.List.{list_any}
+use Rattle.smithy_model.specs.Model.{Model}
+use Rattle.smithy_declarations.specs.Decl.{Decl}
+use Rattle.smithy_model_table.specs.Naming.{names_of}
+use Rattle.smithy_model_table.specs.Outcomes.{LeftOut, AreParts}
 use Rattle.smithy_model_table.specs.Leaving.{is_marked}
 use Rattle.smithy_model_table.specs.Marking.{count_of_unmarked}
-use Rattle.smithy_model_table.specs.Reaching.{first_of_each, within}
+use Rattle.smithy_model_table.specs.Reaching.{first_of_each, within, AreReached}
 
 -- this number is one of these
 abbrev pub is_among : List ℕ → ℕ → Bool
@@ -20,3 +24,8 @@ pub record AreVisited (count : ℕ) (came : List ℕ) (seen : List Bool) (order 
 abbrev pub Visits : (seen : List Bool) (order : List ℕ) (new_seen : List Bool) (new_order more : List ℕ) → Type 0
 Visits seen order new_seen new_order more =
     (count : ℕ) (came : List ℕ) → AreVisited count came seen order → AreVisited count (came ++ more) new_seen new_order
+
+-- these are the declarations of the shapes that are reached from some, in order, and what they leave out
+abbrev pub DeclaresReached : Model → List Bool → (roots : List ℕ) → List Decl → List LeftOut → Type 0
+DeclaresReached m marks roots decls left =
+    (order : List ℕ) × AreReached m marks roots order × AreParts m marks (names_of m) order decls left

@@ -3,6 +3,7 @@ ghost use Rattle.std.specs.Prelude.{map, IfOk, IfErr};
 ghost use Rattle.smithy_model.specs.Views.{model_view};
 ghost use Rattle.smithy_declarations.specs.DeclViews.{decl_of};
 ghost use Rattle.smithy_model_table.specs.ModelTable.{IsMade, IsTableOf};
+ghost use Rattle.smithy_model_table.specs.Visiting.{DeclaresReached};
 ghost use Rattle.smithy_model_table.specs.Refusals.{RefusesWanted};
 ghost use Rattle.smithy_model_table.specs.Views.{left_view, wanted_view};
 
@@ -16,7 +17,7 @@ use crate::roles::Roles;
 use crate::wanted::{Wanted, roots_of};
 use smithy_model::Model;
 use smithy_table_text::text_of;
-use std::alloc::Global;
+use std::alloc::{AllocError, Global};
 
 // The most shapes of a model.
 const MAX_SHAPES: usize = 65_535;
@@ -26,6 +27,21 @@ const MAX_SHAPES: usize = 65_535;
 pub struct ModelTable<'a> {
     pub text: Vec<u8>,
     pub left: Vec<Left<'a>>,
+}
+
+// The declarations of the shapes that these reach, and what they leave out.
+fn declare_reached<'a>(
+    alloc: Global,
+    model: &Model<'a>,
+    marks: &[bool],
+    roots: &[usize],
+) -> Result<Declared<'a>, AllocError>
+    ensures { IfOk result (λ d. DeclaresReached (model_view model.now) marks.now roots.now (map decl_of d.decls.items) (map left_view d.left.items)) }
+{
+    let roles = Roles::of(alloc, model)?;
+    let order = reached(alloc, model, &roles, marks, roots)?;
+    let names = Names::of(alloc, model)?;
+    declare_all(alloc, model, &roles, marks, &names, &order)
 }
 
 // The declarations of what is wanted of a model, and what they leave out.
@@ -42,10 +58,7 @@ fn declare<'a>(
     }
     let marks = uncarried(alloc, model)?;
     let roots = roots_of(alloc, model, &marks, wanted)?;
-    let roles = Roles::of(alloc, model)?;
-    let order = reached(alloc, model, &roles, &marks, &roots)?;
-    let names = Names::of(alloc, model)?;
-    Ok(declare_all(alloc, model, &roles, &marks, &names, &order)?)
+    Ok(declare_reached(alloc, model, &marks, &roots)?)
 }
 
 /// The table of what is wanted of a model: the shapes that are reached from it. The model is let go before the text is made, so that

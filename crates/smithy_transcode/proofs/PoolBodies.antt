@@ -23,3 +23,8 @@ pool_of_itself p sound = (p.input.now, record { sound = sound; input = refl })
 pub read_stands : (p q : Pool) (answer : Result Slot SerdeError) → IfOk answer (λ x. Keeps p q × HoldsSlot q x) → IfOk answer (λ x. IsSound q × HoldsSlot q x)
 read_stands p q (Ok x) adds = (adds.0.grows.sound, adds.1)
 read_stands p q (Err e) adds = tt
+
+-- what stood in the pool before it stands there still
+pub read_keeps : (p q : Pool) (answer : Result Slot SerdeError) → IfOk answer (λ x. Keeps p q × HoldsSlot q x) → IfOk answer (λ x. Keeps p q)
+read_keeps p q (Ok x) adds = adds.0
+read_keeps p q (Err e) adds = tt

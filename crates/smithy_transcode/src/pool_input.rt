@@ -4,7 +4,7 @@ ghost use Rattle.smithy_declarations.specs.Table.{IsStructure, kind_of, shape_pl
 ghost use Rattle.smithy_tree.specs.Seen.{IsSound, HoldsSlot, view};
 ghost use Rattle.smithy_transcode.specs.ReadBody.{ReadsBody};
 ghost use Rattle.smithy_transcode.specs.Wires.{wire_of};
-ghost use Rattle.smithy_value.specs.Pooled.{slot_view, IsPoolOf};
+ghost use Rattle.smithy_value.specs.Pooled.{slot_view, IsPoolOf, Keeps};
 ghost use Rattle.smithy_transcode.specs.Private.ReadWhole.{ReadsWhole};
 
 use crate::refusal::refusal;
@@ -16,7 +16,7 @@ use smithy_tree::{Pool, Slot};
 use smithy_value::read_tree;
 use std::alloc::Global;
 
-/// Reads a whole input as `read_body` does, as a tree in a pool of this input.
+/// Reads a whole input as `read_body` does, as a tree in a pool of this input. What stood in the pool before stands there still.
 pub fn read_body_into(
     alloc: Global,
     shapes: &Shapes,
@@ -29,6 +29,7 @@ pub fn read_body_into(
     requires pool { IsPoolOf pool.old input.now }
     ensures read { ReadsBody (λ s. view pool.new s.node) shapes.now root.0 (wire_of from.now) input.now result }
     ensures sound { IfOk result (λ s. IsSound pool.new × HoldsSlot pool.new s) }
+    ensures keeps { IfOk result (λ s. Keeps pool.old pool.new) }
 {
     match read_whole(alloc, shapes, root, from, input, pool) {
         Ok(slot) => Ok(slot),
@@ -49,6 +50,7 @@ pub(crate) fn read_whole(
     requires pool { IsPoolOf pool.old input.now }
     ensures read { ReadsWhole (slot_view pool.new) (wire_of from.now) shapes.now root.0 input.now result }
     ensures sound { IfOk result (λ s. IsSound pool.new × HoldsSlot pool.new s) }
+    ensures keeps { IfOk result (λ s. Keeps pool.old pool.new) }
 {
     let schema = shapes.schema(root);
     match from {

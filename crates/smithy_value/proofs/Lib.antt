@@ -10,6 +10,7 @@ mod ReadDeep
 mod ReadTypes
 mod ReadViews
 pub mod ReadWide
+mod Refused
 pub mod Standing
 pub mod Structures
 pub mod Unions

@@ -1,5 +1,5 @@
 //! Reading a value tree from any wire.
-ghost use Rattle.std.specs.Prelude.{◌≡◌, true};
+ghost use Rattle.std.specs.Prelude.{◌≡◌, true, OnErr};
 ghost use Rattle.smithy_declarations.specs.Table.{type_of, IsStructure, IsUnion, IsList, IsMap};
 ghost use Rattle.smithy_shapes.specs.Site.{site_of, kind_at};
 ghost use Rattle.smithy_value.specs.ReadTree.{ReadsBy, ReadsTree};
@@ -14,7 +14,7 @@ use smithy_schema::{BorrowDeserializer, PieceDeserializer, Schema, SerdeError, S
 use std::alloc::Global;
 
 /// Reads the value of the schema that is due, whatever the wire. Its texts and bytes borrow from the input of the reader, which they
-/// may outlive.
+/// may outlive. After an error the reader has failed.
 pub fn read_value<'a, D: BorrowDeserializer<'a>>(
     alloc: Global,
     source: &mut D,
@@ -23,6 +23,7 @@ pub fn read_value<'a, D: BorrowDeserializer<'a>>(
     requires due { (D.state source.old).due ≡ true }
     ensures same { D.settings source.new ≡ D.settings source.old }
     ensures reads { ReadsBy D.ShapeDeserializer source.old source.new (site_of schema.now) view result }
+    ensures broken { OnErr result ((D.state source.new).failed ≡ true) }
 {
     let mut texts = Borrowing::<'_, 'a, D>::new(source);
     read_through(alloc, &mut texts, schema)
@@ -38,15 +39,39 @@ fn read_through<'a, D: BorrowDeserializer<'a>>(
     ensures same_reference { texts.new.source.ghost_name ≡ texts.old.source.ghost_name }
     ensures same { D.settings texts.new.source.now ≡ D.settings texts.old.source.now }
     ensures reads { ReadsBy D.ShapeDeserializer texts.old.source.now texts.new.source.now (site_of schema.now) view result }
+    ensures broken { OnErr result ((D.state texts.new.source.now).failed ≡ true) }
 {
     let mut trees = ValueTrees::new();
     read_tree::<ValueTrees<'a>, Borrowing<'_, 'a, D>>(alloc, texts, &mut trees, schema)
 }
 
-/// Reads the value of the schema that is due as a tree of any store, whatever the wire. The store is one of the reader's input.
-#[cycle(read)]
+/// Reads the value of the schema that is due as a tree of any store, whatever the wire. The store is one of the reader's input. After
+/// an error the reader has failed.
 #[inline(always)]
 pub fn read_tree<P: Trees, D: PieceDeserializer<Text = P::Text, Bytes = P::Bytes>>(
+    alloc: Global,
+    source: &mut D,
+    trees: &mut P,
+    schema: &Schema<'_>,
+) -> Result<P::Tree, SerdeError>
+    requires due { (D.state source.old).due ≡ true }
+    requires sound { P.sound trees.old (D.state source.old).input }
+    ensures tree { ReadsTree D.ShapeDeserializer P.keeps P.stands P.view source.old source.new trees.old trees.new (site_of schema.now) result }
+    ensures broken { OnErr result ((D.state source.new).failed ≡ true) }
+{
+    match read_part::<P, D>(alloc, source, trees, schema) {
+        Ok(tree) => Ok(tree),
+        Err(error) => {
+            source.fail();
+            Err(error)
+        }
+    }
+}
+
+// Reads the value that is due. Where the store lacks memory for it, the reader goes on behind what was read.
+#[cycle(read)]
+#[inline(always)]
+fn read_part<P: Trees, D: PieceDeserializer<Text = P::Text, Bytes = P::Bytes>>(
     alloc: Global,
     source: &mut D,
     trees: &mut P,
@@ -134,7 +159,7 @@ fn read_structure<P: Trees, D: PieceDeserializer<Text = P::Text, Bytes = P::Byte
                 let Some(index) = member.member_index() else {
                     unreachable!()
                 };
-                let value = read_tree::<P, D>(alloc, source, trees, &member)?;
+                let value = read_part::<P, D>(alloc, source, trees, &member)?;
                 trees.set_member(&mut members, index, value)?;
             }
             Step::Unknown => source.skip_value()?,
@@ -164,7 +189,7 @@ fn read_union<P: Trees, D: PieceDeserializer<Text = P::Text, Bytes = P::Bytes>>(
     let Some(index) = member.member_index() else {
         unreachable!()
     };
-    let value = read_tree::<P, D>(alloc, source, trees, &member)?;
+    let value = read_part::<P, D>(alloc, source, trees, &member)?;
     let Step::End = source.next_member(schema)? else {
         source.fail();
         return Err(SerdeError::InvalidInput);
@@ -196,7 +221,7 @@ fn read_list<P: Trees, D: PieceDeserializer<Text = P::Text, Bytes = P::Bytes>>(
             source.read_null()?;
             trees.push_element(&mut elements, P::null())?;
         } else {
-            let item = read_tree::<P, D>(alloc, source, trees, &element)?;
+            let item = read_part::<P, D>(alloc, source, trees, &element)?;
             trees.push_element(&mut elements, item)?;
         }
     }
@@ -227,7 +252,7 @@ fn read_map<P: Trees, D: PieceDeserializer<Text = P::Text, Bytes = P::Bytes>>(
             source.read_null()?;
             trees.set_entry(alloc, &mut entries, key, P::null())?;
         } else {
-            let value = read_tree::<P, D>(alloc, source, trees, &inner)?;
+            let value = read_part::<P, D>(alloc, source, trees, &inner)?;
             trees.set_entry(alloc, &mut entries, key, value)?;
         }
     }

@@ -15,8 +15,8 @@ mod Structures
 mod Unions
 
 -- scalars
-pub read_tree-returns-in_err-read_boolean-in-Boolean : goal.read_tree-returns-in_err-read_boolean-in-Boolean
-read_tree-returns-in_err-read_boolean-in-Boolean g t c =
+pub read_part-returns-in_err-read_boolean-in-Boolean : goal.read_part-returns-in_err-read_boolean-in-Boolean
+read_part-returns-in_err-read_boolean-in-Boolean g t c =
     let p = err_from_is_err_and c.from_residual.result c.from_residual.ensures.1 in
     rw (p.1, p.2)
     (record {
@@ -25,8 +25,8 @@ read_tree-returns-in_err-read_boolean-in-Boolean g t c =
       adds = tt;
     })
 
-pub read_tree-returns-in_ok-read_boolean-in-Boolean : goal.read_tree-returns-in_ok-read_boolean-in-Boolean
-read_tree-returns-in_ok-read_boolean-in-Boolean g t c =
+pub read_part-returns-in_ok-read_boolean-in-Boolean : goal.read_part-returns-in_ok-read_boolean-in-Boolean
+read_part-returns-in_ok-read_boolean-in-Boolean g t c =
     let counts = g.met.D.ShapeDeserializer.counts (g.D.ShapeDeserializer.settings c.args.source.now) in
     record {
       same = c.read_boolean.ensures.same;
@@ -34,8 +34,8 @@ read_tree-returns-in_ok-read_boolean-in-Boolean g t c =
       adds = (g.P.Trees.keeps_lawfully.itself _ _ c.requires.sound, c.boolean.ensures.stands c.args.trees.now);
     }
 
-pub read_tree-returns-in_err-read_byte-in-Byte : goal.read_tree-returns-in_err-read_byte-in-Byte
-read_tree-returns-in_err-read_byte-in-Byte g t c =
+pub read_part-returns-in_err-read_byte-in-Byte : goal.read_part-returns-in_err-read_byte-in-Byte
+read_part-returns-in_err-read_byte-in-Byte g t c =
     let p = err_from_is_err_and c.from_residual-in_err-read_byte-in-Byte.result c.from_residual-in_err-read_byte-in-Byte.ensures.1 in
     rw (p.1, p.2)
     (record {
@@ -44,8 +44,8 @@ read_tree-returns-in_err-read_byte-in-Byte g t c =
       adds = tt;
     })
 
-pub read_tree-returns-in_ok-read_byte-in-Byte : goal.read_tree-returns-in_ok-read_byte-in-Byte
-read_tree-returns-in_ok-read_byte-in-Byte g t c =
+pub read_part-returns-in_ok-read_byte-in-Byte : goal.read_part-returns-in_ok-read_byte-in-Byte
+read_part-returns-in_ok-read_byte-in-Byte g t c =
     let counts = g.met.D.ShapeDeserializer.counts (g.D.ShapeDeserializer.settings c.args.source.now) in
     record {
       same = c.read_byte.ensures.same;
@@ -53,8 +53,8 @@ read_tree-returns-in_ok-read_byte-in-Byte g t c =
       adds = (g.P.Trees.keeps_lawfully.itself _ _ c.requires.sound, c.whole.ensures.stands c.args.trees.now);
     }
 
-pub read_tree-returns-in_err-read_short-in-Short : goal.read_tree-returns-in_err-read_short-in-Short
-read_tree-returns-in_err-read_short-in-Short g t c =
+pub read_part-returns-in_err-read_short-in-Short : goal.read_part-returns-in_err-read_short-in-Short
+read_part-returns-in_err-read_short-in-Short g t c =
     let p = err_from_is_err_and c.from_residual-in_err-read_short-in-Short.result c.from_residual-in_err-read_short-in-Short.ensures.1 in
     rw (p.1, p.2)
     (record {
@@ -63,8 +63,8 @@ read_tree-returns-in_err-read_short-in-Short g t c =
       adds = tt;
     })
 
-pub read_tree-returns-in_ok-read_short-in-Short : goal.read_tree-returns-in_ok-read_short-in-Short
-read_tree-returns-in_ok-read_short-in-Short g t c =
+pub read_part-returns-in_ok-read_short-in-Short : goal.read_part-returns-in_ok-read_short-in-Short
+read_part-returns-in_ok-read_short-in-Short g t c =
     let counts = g.met.D.ShapeDeserializer.counts (g.D.ShapeDeserializer.settings c.args.source.now) in
     record {
       same = c.read_short.ensures.same;
@@ -72,8 +72,8 @@ read_tree-returns-in_ok-read_short-in-Short g t c =
       adds = (g.P.Trees.keeps_lawfully.itself _ _ c.requires.sound, c.whole-in-Short.ensures.stands c.args.trees.now);
     }
 
-pub read_tree-returns-in_err-read_integer-in-Integer : goal.read_tree-returns-in_err-read_integer-in-Integer
-read_tree-returns-in_err-read_integer-in-Integer g t c =
+pub read_part-returns-in_err-read_integer-in-Integer : goal.read_part-returns-in_err-read_integer-in-Integer
+read_part-returns-in_err-read_integer-in-Integer g t c =
     let p = err_from_is_err_and c.from_residual-in_err-read_integer-in-Integer.result c.from_residual-in_err-read_integer-in-Integer.ensures.1 in
     rw (p.1, p.2)
     (record {
@@ -82,8 +82,8 @@ read_tree-returns-in_err-read_integer-in-Integer g t c =
       adds = tt;
     })
 
-pub read_tree-returns-in_ok-read_integer-in-Integer : goal.read_tree-returns-in_ok-read_integer-in-Integer
-read_tree-returns-in_ok-read_integer-in-Integer g t c =
+pub read_part-returns-in_ok-read_integer-in-Integer : goal.read_part-returns-in_ok-read_integer-in-Integer
+read_part-returns-in_ok-read_integer-in-Integer g t c =
     let counts = g.met.D.ShapeDeserializer.counts (g.D.ShapeDeserializer.settings c.args.source.now) in
     record {
       same = c.read_integer.ensures.same;
@@ -91,8 +91,8 @@ read_tree-returns-in_ok-read_integer-in-Integer g t c =
       adds = (g.P.Trees.keeps_lawfully.itself _ _ c.requires.sound, c.whole-in-Integer.ensures.stands c.args.trees.now);
     }
 
-pub read_tree-returns-in_err-read_long-in-Long : goal.read_tree-returns-in_err-read_long-in-Long
-read_tree-returns-in_err-read_long-in-Long g t c =
+pub read_part-returns-in_err-read_long-in-Long : goal.read_part-returns-in_err-read_long-in-Long
+read_part-returns-in_err-read_long-in-Long g t c =
     let p = err_from_is_err_and c.from_residual-in_err-read_long-in-Long.result c.from_residual-in_err-read_long-in-Long.ensures.1 in
     rw (p.1, p.2)
     (record {
@@ -101,8 +101,8 @@ read_tree-returns-in_err-read_long-in-Long g t c =
       adds = tt;
     })
 
-pub read_tree-returns-in_ok-read_long-in-Long : goal.read_tree-returns-in_ok-read_long-in-Long
-read_tree-returns-in_ok-read_long-in-Long g t c =
+pub read_part-returns-in_ok-read_long-in-Long : goal.read_part-returns-in_ok-read_long-in-Long
+read_part-returns-in_ok-read_long-in-Long g t c =
     let counts = g.met.D.ShapeDeserializer.counts (g.D.ShapeDeserializer.settings c.args.source.now) in
     record {
       same = c.read_long.ensures.same;
@@ -110,8 +110,8 @@ read_tree-returns-in_ok-read_long-in-Long g t c =
       adds = (g.P.Trees.keeps_lawfully.itself _ _ c.requires.sound, c.whole-in-Long.ensures.stands c.args.trees.now);
     }
 
-pub read_tree-returns-in_err-take_text-in-String : goal.read_tree-returns-in_err-take_text-in-String
-read_tree-returns-in_err-take_text-in-String g t c =
+pub read_part-returns-in_err-take_text-in-String : goal.read_part-returns-in_err-take_text-in-String
+read_part-returns-in_err-take_text-in-String g t c =
     let p = err_from_is_err_and c.from_residual-in_err-take_text-in-String.result c.from_residual-in_err-take_text-in-String.ensures.1 in
     rw (p.1, p.2)
     (record {
@@ -120,8 +120,8 @@ read_tree-returns-in_err-take_text-in-String g t c =
       adds = tt;
     })
 
-pub read_tree-returns-in_ok-take_text-in-String : goal.read_tree-returns-in_ok-take_text-in-String
-read_tree-returns-in_ok-take_text-in-String g t c =
+pub read_part-returns-in_ok-take_text-in-String : goal.read_part-returns-in_ok-take_text-in-String
+read_part-returns-in_ok-take_text-in-String g t c =
     let counts = g.met.D.ShapeDeserializer.counts (g.D.ShapeDeserializer.settings c.args.source.now) in
     record {
       same = c.take_text.ensures.same;
@@ -129,8 +129,8 @@ read_tree-returns-in_ok-take_text-in-String g t c =
       adds = made_added _ _ _ _ _ _ c.text.result (c.text.ensures.ok (g.D.ShapeDeserializer.state c.args.source.now).input c.requires.sound);
     }
 
-pub read_tree-returns-in_err-take_bytes-in-Blob : goal.read_tree-returns-in_err-take_bytes-in-Blob
-read_tree-returns-in_err-take_bytes-in-Blob g t c =
+pub read_part-returns-in_err-take_bytes-in-Blob : goal.read_part-returns-in_err-take_bytes-in-Blob
+read_part-returns-in_err-take_bytes-in-Blob g t c =
     let p = err_from_is_err_and c.from_residual-in_err-take_bytes-in-Blob.result c.from_residual-in_err-take_bytes-in-Blob.ensures.1 in
     rw (p.1, p.2)
     (record {
@@ -139,8 +139,8 @@ read_tree-returns-in_err-take_bytes-in-Blob g t c =
       adds = tt;
     })
 
-pub read_tree-returns-in_ok-take_bytes-in-Blob : goal.read_tree-returns-in_ok-take_bytes-in-Blob
-read_tree-returns-in_ok-take_bytes-in-Blob g t c =
+pub read_part-returns-in_ok-take_bytes-in-Blob : goal.read_part-returns-in_ok-take_bytes-in-Blob
+read_part-returns-in_ok-take_bytes-in-Blob g t c =
     let counts = g.met.D.ShapeDeserializer.counts (g.D.ShapeDeserializer.settings c.args.source.now) in
     record {
       same = c.take_bytes.ensures.same;
@@ -148,11 +148,11 @@ read_tree-returns-in_ok-take_bytes-in-Blob g t c =
       adds = made_added _ _ _ _ _ _ c.bytes.result (c.bytes.ensures.ok (g.D.ShapeDeserializer.state c.args.source.now).input c.requires.sound);
     }
 
-pub read_tree-text-requires : goal.read_tree-text-requires
-read_tree-text-requires g t c = record { stands = (_, c.requires.sound, c.in_ok-take_text-in-String.ensures.placed) }
+pub read_part-text-requires : goal.read_part-text-requires
+read_part-text-requires g t c = record { stands = (_, c.requires.sound, c.in_ok-take_text-in-String.ensures.placed) }
 
-pub read_tree-bytes-requires : goal.read_tree-bytes-requires
-read_tree-bytes-requires g t c = record { stands = (_, c.requires.sound, c.in_ok-take_bytes-in-Blob.ensures.placed) }
+pub read_part-bytes-requires : goal.read_part-bytes-requires
+read_part-bytes-requires g t c = record { stands = (_, c.requires.sound, c.in_ok-take_bytes-in-Blob.ensures.placed) }
 
 -- structures
 pub read_structure-returns-in_err-open_struct : goal.read_structure-returns-in_err-open_struct
@@ -191,8 +191,8 @@ read_structure-loop-members-smaller = structures.read_structure-loop-members-sma
 pub read_structure-no_members-members-requires : goal.read_structure-no_members-members-requires
 read_structure-no_members-members-requires = structures.read_structure-no_members-members-requires
 
-pub read_structure-read_tree-requires : goal.read_structure-read_tree-requires
-read_structure-read_tree-requires = structures.read_structure-read_tree-requires
+pub read_structure-read_part-requires : goal.read_structure-read_part-requires
+read_structure-read_part-requires = structures.read_structure-read_part-requires
 
 pub read_structure-set_member-requires-clause-sound : goal.read_structure-set_member-requires-clause-sound
 read_structure-set_member-requires-clause-sound = structures.read_structure-set_member-requires-clause-sound
@@ -231,8 +231,8 @@ read_union-returns-in_default-2 = unions.read_union-returns-in_default-2
 pub read_union-returns : goal.read_union-returns
 read_union-returns = unions.read_union-returns
 
-pub read_union-read_tree-requires : goal.read_union-read_tree-requires
-read_union-read_tree-requires = unions.read_union-read_tree-requires
+pub read_union-read_part-requires : goal.read_union-read_part-requires
+read_union-read_part-requires = unions.read_union-read_part-requires
 
 pub read_union-union-requires-clause-sound : goal.read_union-union-requires-clause-sound
 read_union-union-requires-clause-sound = unions.read_union-union-requires-clause-sound
@@ -289,8 +289,8 @@ read_list-push_element-requires-clause-begun = lists.read_list-push_element-requ
 pub read_list-push_element-requires-clause-stands : goal.read_list-push_element-requires-clause-stands
 read_list-push_element-requires-clause-stands = lists.read_list-push_element-requires-clause-stands
 
-pub read_list-read_tree-requires : goal.read_list-read_tree-requires
-read_list-read_tree-requires = lists.read_list-read_tree-requires
+pub read_list-read_part-requires : goal.read_list-read_part-requires
+read_list-read_part-requires = lists.read_list-read_part-requires
 
 pub read_list-push_element-requires-else-sparse-clause-sound : goal.read_list-push_element-requires-else-sparse-clause-sound
 read_list-push_element-requires-else-sparse-clause-sound = lists.read_list-push_element-requires-else-sparse-clause-sound
@@ -356,8 +356,8 @@ read_map-set_entry-requires-clause-begun = maps.read_map-set_entry-requires-clau
 pub read_map-set_entry-requires-clause-stands : goal.read_map-set_entry-requires-clause-stands
 read_map-set_entry-requires-clause-stands = maps.read_map-set_entry-requires-clause-stands
 
-pub read_map-read_tree-requires : goal.read_map-read_tree-requires
-read_map-read_tree-requires = maps.read_map-read_tree-requires
+pub read_map-read_part-requires : goal.read_map-read_part-requires
+read_map-read_part-requires = maps.read_map-read_part-requires
 
 pub read_map-set_entry-requires-else-sparse-clause-key : goal.read_map-set_entry-requires-else-sparse-clause-key
 read_map-set_entry-requires-else-sparse-clause-key = maps.read_map-set_entry-requires-else-sparse-clause-key

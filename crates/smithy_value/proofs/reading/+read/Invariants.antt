@@ -8,8 +8,8 @@ use Rattle.smithy_value.proofs.HalfRead.{HalfRead}
 use Rattle.smithy_value.proofs.reading.+read.Given as goal
 
 -- twice the containers that may still be opened
-abbrev pub decreases-read_tree : goal.decreases-read_tree
-decreases-read_tree g l =
+abbrev pub decreases-read_part : goal.decreases-read_part
+decreases-read_part g l =
     let d = g.D.ShapeDeserializer in
     2 * ((d.reading (d.settings l.source.now)).max_depth - depth (d.state l.source.now)) + 1
 

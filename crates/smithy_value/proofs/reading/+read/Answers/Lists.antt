@@ -139,7 +139,7 @@ read_list-returns-in_err-item g t c =
     let p = err_from_is_err_and c.from_residual-in_err-item.result c.from_residual-in_err-item.ensures.1 in
     rw (p.1, p.2)
     (record {
-      same = c.read_tree.ensures.same ∙ c.next_element.ensures.same ∙ same;
+      same = c.read_part.ensures.same ∙ c.next_element.ensures.same ∙ same;
       reads = element_fails _ _ _ _ laws _ _ outer (site_of c.in-Some.element) _ _ _ _ _ _ c.requires.place place half step no_null (rw (c.next_element.ensures.same, same) at c.in_err-item.ensures.reads);
       adds = tt;
     })
@@ -158,7 +158,7 @@ read_list-returns-in_err-push_element-2 g t c =
     let p = err_from_is_err_and c.from_residual-in_err-push_element-2.result c.from_residual-in_err-push_element-2.ensures.1 in
     rw (p.1, p.2)
     (record {
-      same = c.read_tree.ensures.same ∙ c.next_element.ensures.same ∙ same;
+      same = c.read_part.ensures.same ∙ c.next_element.ensures.same ∙ same;
       reads = memory_fails _ _ _ _ _ outer _ _ _ (value_passed _ _ _ _ laws _ (site_of c.in-Some.element) _ _ _ _ (stepped_to _ _ _ laws _ _ _ _ _ None half.reached step) reads) c.in_err-push_element-2.ensures.err;
       adds = tt;
     })
@@ -183,9 +183,9 @@ read_list-loop-elements-preserved g t c =
     let grown = c.in_ok-item.ensures.adds.0 in
     let begun = c.loop-elements.invariant.begun in
     let p = c.loop-elements.trees in
-    let q = c.read_tree.new.trees in
+    let q = c.read_part.new.trees in
     record {
-      same = c.read_tree.ensures.same ∙ c.next_element.ensures.same ∙ same;
+      same = c.read_part.ensures.same ∙ c.next_element.ensures.same ∙ same;
       begun = c.in_ok-push_element-2.ensures.begun c.args.trees.now (grows.begun_still c.args.trees.now p q c.loop-elements.elements begun grown);
       half = rw (c.in_ok-push_element-2.ensures.ok, grows.shown_still c.args.trees.now p q c.loop-elements.elements begun grown) (element_passed _ _ _ _ laws outer (site_of c.in-Some.element) _ _ _ _ _ _ _ place half step no_null reads.ok);
     }
@@ -231,7 +231,7 @@ read_list-loop-elements-smaller g t c =
       | read_list-else-sparse-via-else-sparse w ↦ absurd (let found : true ≡ false = sym (c.is_sparse-sparse.ensures.1 sparse) ∙ w.if-sparse.false in cc)
     ] in
     let reads = rw (c.next_element.ensures.same, same, place.0) at c.in_ok-item.ensures.reads.ok in
-    rw (c.read_tree.ensures.same, c.next_element.ensures.same, same)
+    rw (c.read_part.ensures.same, c.next_element.ensures.same, same)
     (element_falls _ _ _ (g.met.D.ShapeDeserializer.lawful s0) _ _ _ _ _ _ c.in-Some.element.place _ _ half.kept step no_null place.1 reads)
 
 pub read_list-no_elements-elements-requires : goal.read_list-no_elements-elements-requires
@@ -250,8 +250,8 @@ pub read_list-push_element-requires-clause-stands : goal.read_list-push_element-
 read_list-push_element-requires-clause-stands g t c =
     c.null.ensures.stands c.loop-elements.trees
 
-pub read_list-read_tree-requires : goal.read_list-read_tree-requires
-read_list-read_tree-requires g t c κs within =
+pub read_list-read_part-requires : goal.read_list-read_part-requires
+read_list-read_part-requires g t c κs within =
     let half = c.loop-elements.invariant.half in
     let same = c.loop-elements.invariant.same in
     let step = rw (c.if-branch.true, same) at (c.in_ok-next_element.ensures.goes_on.ok half.kept.due c.args.schema.now.shapes.now c.args.schema.now.place c.requires.place) in
@@ -265,13 +265,13 @@ read_list-read_tree-requires g t c κs within =
 pub read_list-push_element-requires-else-sparse-clause-sound : goal.read_list-push_element-requires-else-sparse-clause-sound
 read_list-push_element-requires-else-sparse-clause-sound g t c =
     let grows = g.P.Trees.elements_grow_lawfully in
-    let begun = grows.begun_still c.args.trees.now c.loop-elements.trees c.read_tree.new.trees c.loop-elements.elements c.loop-elements.invariant.begun c.in_ok-item.ensures.adds.0 in
-    (_, grows.sound_still c.args.trees.now c.read_tree.new.trees _ c.loop-elements.elements c.requires.sound begun)
+    let begun = grows.begun_still c.args.trees.now c.loop-elements.trees c.read_part.new.trees c.loop-elements.elements c.loop-elements.invariant.begun c.in_ok-item.ensures.adds.0 in
+    (_, grows.sound_still c.args.trees.now c.read_part.new.trees _ c.loop-elements.elements c.requires.sound begun)
 
 pub read_list-push_element-requires-else-sparse-clause-begun : goal.read_list-push_element-requires-else-sparse-clause-begun
 read_list-push_element-requires-else-sparse-clause-begun g t c =
     let grows = g.P.Trees.elements_grow_lawfully in
-    let begun = grows.begun_still c.args.trees.now c.loop-elements.trees c.read_tree.new.trees c.loop-elements.elements c.loop-elements.invariant.begun c.in_ok-item.ensures.adds.0 in
+    let begun = grows.begun_still c.args.trees.now c.loop-elements.trees c.read_part.new.trees c.loop-elements.elements c.loop-elements.invariant.begun c.in_ok-item.ensures.adds.0 in
     (c.args.trees.now, begun)
 
 pub read_list-push_element-requires-else-sparse-clause-stands : goal.read_list-push_element-requires-else-sparse-clause-stands

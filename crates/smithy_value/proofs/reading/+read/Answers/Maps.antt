@@ -142,7 +142,7 @@ read_map-returns-in_err-value g t c =
     let p = err_from_is_err_and c.from_residual-in_err-value.result c.from_residual-in_err-value.ensures.1 in
     rw (p.1, p.2)
     (record {
-      same = c.read_tree.ensures.same ∙ c.take_key.ensures.same ∙ same;
+      same = c.read_part.ensures.same ∙ c.take_key.ensures.same ∙ same;
       reads = entry_fails _ _ _ _ laws _ _ outer (site_of c.in-Some.inner) _ _ _ _ _ _ _ c.requires.place place half step no_null (rw (c.take_key.ensures.same, same) at c.in_err-value.ensures.reads);
       adds = tt;
     })
@@ -161,7 +161,7 @@ read_map-returns-in_err-set_entry-2 g t c =
     let p = err_from_is_err_and c.from_residual-in_err-set_entry-2.result c.from_residual-in_err-set_entry-2.ensures.1 in
     rw (p.1, p.2)
     (record {
-      same = c.read_tree.ensures.same ∙ c.take_key.ensures.same ∙ same;
+      same = c.read_part.ensures.same ∙ c.take_key.ensures.same ∙ same;
       reads = memory_fails _ _ _ _ _ outer _ _ _ (value_passed _ _ _ _ laws _ (site_of c.in-Some.inner) _ _ _ _ (stepped_to _ _ _ laws _ _ _ _ _ _ half.reached step) reads) c.in_err-set_entry-2.ensures.err;
       adds = tt;
     })
@@ -185,11 +185,11 @@ read_map-loop-entries-preserved g t c =
     let grows = g.P.Trees.entries_grow_lawfully in
     let grown = c.in_ok-value.ensures.adds.0 in
     let p = c.loop-entries.trees in
-    let q = c.read_tree.new.trees in
+    let q = c.read_part.new.trees in
     let begun = grows.begun_still c.args.trees.now p q c.loop-entries.entries c.loop-entries.invariant.begun grown in
     let sound = half_sound_at grows c.args.trees.now q _ _ c.loop-entries.entries c.requires.sound begun half.reached.input in
     record {
-      same = c.read_tree.ensures.same ∙ c.take_key.ensures.same ∙ same;
+      same = c.read_part.ensures.same ∙ c.take_key.ensures.same ∙ same;
       begun = c.in_ok-set_entry-2.ensures.begun c.args.trees.now begun;
       half = rw (c.in_ok-set_entry-2.ensures.ok (g.D.ShapeDeserializer.state c.loop-entries.source).input sound, grows.shown_still c.args.trees.now p q c.loop-entries.entries c.loop-entries.invariant.begun grown) (entry_passed _ _ _ _ laws outer (site_of c.in-Some.inner) _ _ _ _ _ _ _ _ c.requires.place place half step no_null reads.ok);
     }
@@ -235,7 +235,7 @@ read_map-loop-entries-smaller g t c =
       | read_map-else-sparse-via-else-sparse w ↦ absurd (let found : true ≡ false = sym (c.is_sparse-sparse.ensures.1 sparse) ∙ w.if-sparse.false in cc)
     ] in
     let reads = rw (c.take_key.ensures.same, same, place.0) at c.in_ok-value.ensures.reads.ok in
-    rw (c.read_tree.ensures.same, c.take_key.ensures.same, same)
+    rw (c.read_part.ensures.same, c.take_key.ensures.same, same)
     (entry_falls _ _ _ (g.met.D.ShapeDeserializer.lawful s0) _ _ _ _ _ _ c.in-Some.inner.place _ _ _ c.requires.place half.kept step no_null place.1 reads)
 
 pub read_map-no_entries-entries-requires : goal.read_map-no_entries-entries-requires
@@ -256,8 +256,8 @@ pub read_map-set_entry-requires-clause-stands : goal.read_map-set_entry-requires
 read_map-set_entry-requires-clause-stands g t c =
     c.null.ensures.stands c.loop-entries.trees
 
-pub read_map-read_tree-requires : goal.read_map-read_tree-requires
-read_map-read_tree-requires g t c κs within =
+pub read_map-read_part-requires : goal.read_map-read_part-requires
+read_map-read_part-requires g t c κs within =
     let half = c.loop-entries.invariant.half in
     let same = c.loop-entries.invariant.same in
     let step = rw (c.in-Some-2.is, same) at (c.in_ok-key.ensures.goes_on.ok half.kept.due c.args.schema.now.shapes.now c.args.schema.now.place c.requires.place) in
@@ -273,13 +273,13 @@ read_map-set_entry-requires-else-sparse-clause-key g t c =
     let half = c.loop-entries.invariant.half in
     let stands = rw c.in-Some-2.is at c.in_ok-key.ensures.placed in
     let grows = g.P.Trees.entries_grow_lawfully in
-    let begun = grows.begun_still c.args.trees.now c.loop-entries.trees c.read_tree.new.trees c.loop-entries.entries c.loop-entries.invariant.begun c.in_ok-value.ensures.adds.0 in
-    (_, half_sound_at grows c.args.trees.now c.read_tree.new.trees _ _ c.loop-entries.entries c.requires.sound begun half.reached.input, stands)
+    let begun = grows.begun_still c.args.trees.now c.loop-entries.trees c.read_part.new.trees c.loop-entries.entries c.loop-entries.invariant.begun c.in_ok-value.ensures.adds.0 in
+    (_, half_sound_at grows c.args.trees.now c.read_part.new.trees _ _ c.loop-entries.entries c.requires.sound begun half.reached.input, stands)
 
 pub read_map-set_entry-requires-else-sparse-clause-begun : goal.read_map-set_entry-requires-else-sparse-clause-begun
 read_map-set_entry-requires-else-sparse-clause-begun g t c =
     let grows = g.P.Trees.entries_grow_lawfully in
-    let begun = grows.begun_still c.args.trees.now c.loop-entries.trees c.read_tree.new.trees c.loop-entries.entries c.loop-entries.invariant.begun c.in_ok-value.ensures.adds.0 in
+    let begun = grows.begun_still c.args.trees.now c.loop-entries.trees c.read_part.new.trees c.loop-entries.entries c.loop-entries.invariant.begun c.in_ok-value.ensures.adds.0 in
     (c.args.trees.now, begun)
 
 pub read_map-set_entry-requires-else-sparse-clause-stands : goal.read_map-set_entry-requires-else-sparse-clause-stands

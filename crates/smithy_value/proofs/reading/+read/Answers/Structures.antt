@@ -69,7 +69,7 @@ read_structure-returns-in_err-value-in-Member g t c =
     let p = err_from_is_err_and c.from_residual-in_err-value-in-Member.result c.from_residual-in_err-value-in-Member.ensures.1 in
     rw (p.1, p.2)
     (record {
-      same = c.read_tree.ensures.same ∙ c.next_member.ensures.same ∙ same;
+      same = c.read_part.ensures.same ∙ c.next_member.ensures.same ∙ same;
       reads = member_fails _ _ _ _ laws _ _ outer c.in-Member.member _ _ _ _ _ _ (structure_has_members _ c.requires.place) half (λ variant. absurd (structure_or_union _ c.requires.place variant)) step (rw (c.next_member.ensures.same, same) at c.in_err-value-in-Member.ensures.reads);
       adds = tt;
     })
@@ -88,7 +88,7 @@ read_structure-returns-in_err-set_member-in-Member g t c =
     let p = err_from_is_err_and c.from_residual-in_err-set_member-in-Member.result c.from_residual-in_err-set_member-in-Member.ensures.1 in
     rw (p.1, p.2)
     (record {
-      same = c.read_tree.ensures.same ∙ c.next_member.ensures.same ∙ same;
+      same = c.read_part.ensures.same ∙ c.next_member.ensures.same ∙ same;
       reads = memory_fails _ _ _ _ _ outer _ _ _ (value_passed _ _ _ _ laws _ (site_of c.in-Member.member) _ _ _ _ (stepped_to _ _ _ laws _ _ _ _ _ (Some step.0) half.reached step.2) reads) c.in_err-set_member-in-Member.ensures.err;
       adds = tt;
     })
@@ -108,9 +108,9 @@ read_structure-loop-members-preserved-in-Continue-branch-5 g t c =
     let grown = c.in_ok-value-in-Member.ensures.adds.0 in
     let begun = c.loop-members.invariant.begun in
     let p = c.loop-members.trees in
-    let q = c.read_tree.new.trees in
+    let q = c.read_part.new.trees in
     record {
-      same = c.read_tree.ensures.same ∙ c.next_member.ensures.same ∙ same;
+      same = c.read_part.ensures.same ∙ c.next_member.ensures.same ∙ same;
       begun = c.in_ok-set_member-in-Member.ensures.begun c.args.trees.now (grows.begun_still c.args.trees.now p q c.loop-members.members begun grown);
       half = rw (c.in_ok-set_member-in-Member.ensures.ok, grows.shown_still c.args.trees.now p q c.loop-members.members begun grown) (member_passed _ _ _ _ laws outer c.in-Member.member _ _ _ _ _ c.in-Some.index _ half step (sym c.in-Some.ensures) reads.ok);
     }
@@ -175,8 +175,8 @@ read_structure-loop-members-smaller-in-Continue-branch-5 g t c =
     let same = c.loop-members.invariant.same in
     let step = rw (c.in-Member.is, same) at (c.in_ok-member.ensures.goes_on.ok half.kept.due) in
     let reads = rw (c.next_member.ensures.same, same) at c.in_ok-value-in-Member.ensures.reads in
-    rw (c.read_tree.ensures.same, c.next_member.ensures.same, same)
-    (left_falls _ _ _ (g.met.D.ShapeDeserializer.lawful (g.D.ShapeDeserializer.settings c.args.source.now)) _ _ _ _ _ _ _ _ (Some step.0) (child_value (Some step.0) (Some c.in-Some.index) (g.P.Trees.view c.read_tree.new.trees c.in_ok-value-in-Member.value)) half.kept step.2
+    rw (c.read_part.ensures.same, c.next_member.ensures.same, same)
+    (left_falls _ _ _ (g.met.D.ShapeDeserializer.lawful (g.D.ShapeDeserializer.settings c.args.source.now)) _ _ _ _ _ _ _ _ (Some step.0) (child_value (Some step.0) (Some c.in-Some.index) (g.P.Trees.view c.read_part.new.trees c.in_ok-value-in-Member.value)) half.kept step.2
     (member_child _ _ _ outer c.in-Member.member c.in-Some.index _ _ step (sym c.in-Some.ensures) reads.ok.stands) reads.ok.passes)
 
 pub read_structure-loop-members-smaller : goal.read_structure-loop-members-smaller
@@ -192,8 +192,8 @@ pub read_structure-no_members-members-requires : goal.read_structure-no_members-
 read_structure-no_members-members-requires g t c =
     record { sound = (_, c.requires.sound) }
 
-pub read_structure-read_tree-requires : goal.read_structure-read_tree-requires
-read_structure-read_tree-requires g t c κs within =
+pub read_structure-read_part-requires : goal.read_structure-read_part-requires
+read_structure-read_part-requires g t c κs within =
     let half = c.loop-members.invariant.half in
     let same = c.loop-members.invariant.same in
     let step = rw (c.in-Member.is, same) at (c.in_ok-member.ensures.goes_on.ok half.kept.due) in
@@ -207,13 +207,13 @@ read_structure-read_tree-requires g t c κs within =
 pub read_structure-set_member-requires-clause-sound : goal.read_structure-set_member-requires-clause-sound
 read_structure-set_member-requires-clause-sound g t c =
     let grows = g.P.Trees.members_grow_lawfully in
-    let begun = grows.begun_still c.args.trees.now c.loop-members.trees c.read_tree.new.trees c.loop-members.members c.loop-members.invariant.begun c.in_ok-value-in-Member.ensures.adds.0 in
-    (_, grows.sound_still c.args.trees.now c.read_tree.new.trees _ c.loop-members.members c.requires.sound begun)
+    let begun = grows.begun_still c.args.trees.now c.loop-members.trees c.read_part.new.trees c.loop-members.members c.loop-members.invariant.begun c.in_ok-value-in-Member.ensures.adds.0 in
+    (_, grows.sound_still c.args.trees.now c.read_part.new.trees _ c.loop-members.members c.requires.sound begun)
 
 pub read_structure-set_member-requires-clause-begun : goal.read_structure-set_member-requires-clause-begun
 read_structure-set_member-requires-clause-begun g t c =
     let grows = g.P.Trees.members_grow_lawfully in
-    let begun = grows.begun_still c.args.trees.now c.loop-members.trees c.read_tree.new.trees c.loop-members.members c.loop-members.invariant.begun c.in_ok-value-in-Member.ensures.adds.0 in
+    let begun = grows.begun_still c.args.trees.now c.loop-members.trees c.read_part.new.trees c.loop-members.members c.loop-members.invariant.begun c.in_ok-value-in-Member.ensures.adds.0 in
     (c.args.trees.now, begun)
 
 pub read_structure-set_member-requires-clause-stands : goal.read_structure-set_member-requires-clause-stands

@@ -68,7 +68,7 @@ read_union-returns-in_err-value g t c =
     let p = err_from_is_err_and c.from_residual-in_err-value.result c.from_residual-in_err-value.ensures.1 in
     rw (p.1, p.2)
     (record {
-      same = c.read_tree.ensures.same ∙ c.next_member.ensures.same ∙ c.open_struct.ensures.same;
+      same = c.read_part.ensures.same ∙ c.next_member.ensures.same ∙ c.open_struct.ensures.same;
       reads = member_fails _ _ _ _ laws _ _ outer c.in-Member.member _ _ _ _ _ _ (union_has_members _ c.requires.place) half (λ variant. refl {a = false}) step (rw (c.next_member.ensures.same, c.open_struct.ensures.same) at c.in_err-value.ensures.reads);
       adds = tt;
     })
@@ -84,7 +84,7 @@ read_union-returns-in_err-next_member g t c =
     let step = rw (c.in-Member.is, c.open_struct.ensures.same) at (c.in_ok-member.ensures.goes_on.ok half.kept.due) in
     let reads = rw (c.next_member.ensures.same, c.open_struct.ensures.same) at c.in_ok-value.ensures.reads in
     let behind = variant_passed _ _ _ _ laws outer c.in-Member.member _ _ _ _ c.in-Some.index _ half step (sym c.in-Some.ensures) reads.ok in
-    let same = c.read_tree.ensures.same ∙ c.next_member.ensures.same ∙ c.open_struct.ensures.same in
+    let same = c.read_part.ensures.same ∙ c.next_member.ensures.same ∙ c.open_struct.ensures.same in
     let told = c.in_err-next_member.ensures.goes_on in
     let p = err_from_is_err_and c.from_residual-in_err-next_member.result c.from_residual-in_err-next_member.ensures.1 in
     rw (p.1, p.2)
@@ -105,7 +105,7 @@ read_union-returns-in_default-2 g t c =
     let step = rw (c.in-Member.is, c.open_struct.ensures.same) at (c.in_ok-member.ensures.goes_on.ok half.kept.due) in
     let reads = rw (c.next_member.ensures.same, c.open_struct.ensures.same) at c.in_ok-value.ensures.reads in
     let behind = variant_passed _ _ _ _ laws outer c.in-Member.member _ _ _ _ c.in-Some.index _ half step (sym c.in-Some.ensures) reads.ok in
-    let same = c.read_tree.ensures.same ∙ c.next_member.ensures.same ∙ c.open_struct.ensures.same in
+    let same = c.read_part.ensures.same ∙ c.next_member.ensures.same ∙ c.open_struct.ensures.same in
     let next = rw same at (c.in_ok-next_member.ensures.goes_on.ok behind.kept.due) in
     record {
       same = c.fail-in_default-2.ensures.same ∙ c.next_member-2.ensures.same ∙ same;
@@ -124,16 +124,16 @@ read_union-returns g t c =
     let step = rw (c.in-Member.is, c.open_struct.ensures.same) at (c.in_ok-member.ensures.goes_on.ok half.kept.due) in
     let reads = rw (c.next_member.ensures.same, c.open_struct.ensures.same) at c.in_ok-value.ensures.reads in
     let behind = variant_passed _ _ _ _ laws outer c.in-Member.member _ _ _ _ c.in-Some.index _ half step (sym c.in-Some.ensures) reads.ok in
-    let same = c.read_tree.ensures.same ∙ c.next_member.ensures.same ∙ c.open_struct.ensures.same in
+    let same = c.read_part.ensures.same ∙ c.next_member.ensures.same ∙ c.open_struct.ensures.same in
     let leaves = rw (c.in-End.is, same) at (c.in_ok-next_member.ensures.goes_on.ok behind.kept.due) in
     record {
       same = c.next_member-2.ensures.same ∙ same;
       reads = ends_whole _ _ _ _ laws _ outer _ _ _ _ _ _ _ behind leaves refl (made_shown _ _ _ _ _ _ c.union.result c.union.ensures.ok) c.union.ensures.err;
-      adds = made_behind _ _ _ g.P.Trees.keeps_lawfully c.args.trees.now c.read_tree.new.trees c.union.new.self _ c.union.result c.in_ok-value.ensures.adds.0 c.union.ensures.ok;
+      adds = made_behind _ _ _ g.P.Trees.keeps_lawfully c.args.trees.now c.read_part.new.trees c.union.new.self _ c.union.result c.in_ok-value.ensures.adds.0 c.union.ensures.ok;
     }
 
-pub read_union-read_tree-requires : goal.read_union-read_tree-requires
-read_union-read_tree-requires g t c κs within =
+pub read_union-read_part-requires : goal.read_union-read_part-requires
+read_union-read_part-requires g t c κs within =
     let m = g.met.D.ShapeDeserializer in
     let s0 = g.D.ShapeDeserializer.settings c.args.source.now in
     let laws = obeyed _ _ _ (m.lawful s0) (m.lifted_lawful s0) (m.above s0) (m.counts s0) in
@@ -149,7 +149,7 @@ read_union-read_tree-requires g t c κs within =
 
 pub read_union-union-requires-clause-sound : goal.read_union-union-requires-clause-sound
 read_union-union-requires-clause-sound g t c =
-    (_, g.P.Trees.keeps_lawfully.sound_still c.args.trees.now c.read_tree.new.trees _ c.requires.sound c.in_ok-value.ensures.adds.0)
+    (_, g.P.Trees.keeps_lawfully.sound_still c.args.trees.now c.read_part.new.trees _ c.requires.sound c.in_ok-value.ensures.adds.0)
 
 pub read_union-union-requires-clause-stands : goal.read_union-union-requires-clause-stands
 read_union-union-requires-clause-stands g t c =
