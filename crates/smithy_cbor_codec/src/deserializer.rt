@@ -321,7 +321,7 @@ impl ShapeDeserializer for CborDeserializer<'_> {
 
     fn read_big_integer(&mut self, _schema: &Schema<'_>) -> Result<BigInteger, SerdeError>
         ensures same { reading_settings_of self.new ≡ reading_settings_of self.old }
-        ensures read { ReadsScalar (cbor_relations (keep_limits (reading_settings_of self.old))) (cbor_relations (without_limits (reading_settings_of self.old))) ((reading_settings_of self.old).enforce_strictness ≡ true) (cursor_of self.old) (cursor_of self.new) (site_of _schema.now) scalars.BigInteger (λ n. whole (number n)) result }
+        ensures read { ReadsScalar (cbor_reader (reading_settings_of self.old)) (cursor_of self.old) (cursor_of self.new) (site_of _schema.now) scalars.BigInteger (λ n. whole (number n)) result }
         ensures wide { AnswersWide (cbor_relations (keep_limits (reading_settings_of self.old))) (cursor_of self.old) (site_of _schema.now) scalars.BigInteger result }
         ensures fits { IfOk result (λ n. FitsSigned w128 (number n)) }
 
@@ -340,7 +340,7 @@ impl ShapeDeserializer for CborDeserializer<'_> {
 
     fn read_big_decimal(&mut self, _schema: &Schema<'_>) -> Result<BigDecimal, SerdeError>
         ensures same { reading_settings_of self.new ≡ reading_settings_of self.old }
-        ensures read { ReadsScalar (cbor_relations (keep_limits (reading_settings_of self.old))) (cbor_relations (without_limits (reading_settings_of self.old))) ((reading_settings_of self.old).enforce_strictness ≡ true) (cursor_of self.old) (cursor_of self.new) (site_of _schema.now) scalars.BigDecimal (λ n. decimal (mantissa n) (net_exponent n)) result }
+        ensures read { ReadsScalar (cbor_reader (reading_settings_of self.old)) (cursor_of self.old) (cursor_of self.new) (site_of _schema.now) scalars.BigDecimal (λ n. decimal (mantissa n) (net_exponent n)) result }
         ensures wide { AnswersWide (cbor_relations (keep_limits (reading_settings_of self.old))) (cursor_of self.old) (site_of _schema.now) scalars.BigDecimal result }
         ensures fits { IfOk result (λ n. FitsSigned w128 (mantissa n)) }
 

@@ -98,6 +98,6 @@ frames_of c = cbor_frames c.enforce_strictness
 abbrev pub cbor_relations : Settings → Relations
 cbor_relations c = relations (frames_of c) (rules_of c)
 
--- what the calls of a reader of CBOR are told by: where reading is strict, nothing is missing behind other bytes
+-- what the calls of a reader of CBOR are told by; what its refusals say of the lifted relations, they say where reading is strict
 abbrev pub cbor_reader : Settings → Reader
 cbor_reader c = reader (cbor_relations c) (cbor_relations (without_limits c)) (c.enforce_strictness ≡ true) c.max_depth

@@ -1,6 +1,6 @@
 //! Integers at offsets of an input, by the bytes of their heads (RFC 8949, sections 3 and 3.1).
 
-ghost use Rattle.std.specs.Prelude.{◌≡◌, ◌≤◌, ◌<◌, ◌∷◌, ◌/◌, Some, FitsSigned, length, drop, IfSome, IfNone, ◌⊎◌, ℕ, ℤ};
+ghost use Rattle.std.specs.Prelude.{◌≡◌, ◌≤◌, ◌<◌, ◌∷◌, ◌/◌, Some, FitsSigned, length, IfSome, IfNone, ◌⊎◌, ℕ, ℤ};
 ghost use Rattle.std.specs.Int.{w64};
 ghost use Rattle.cbor_item.specs.Head.{BeginsWithHead, IsCutHead, IsBrokenHead};
 ghost use Rattle.smithy_cbor.specs.Private.HeadNumber.{number_of};

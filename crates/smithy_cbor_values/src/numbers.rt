@@ -7,7 +7,7 @@ ghost use Rattle.smithy_declarations.specs.declared.shape_type.Scalar.TheVariant
 ghost use Rattle.smithy_declarations.specs.Value.{whole, decimal};
 ghost use Rattle.smithy_texts.specs.Numeral.{number as number_of};
 ghost use Rattle.smithy_texts.specs.Decimal.{mantissa, net_exponent, decimal_text};
-ghost use Rattle.smithy_cbor_values.specs.Private.ScalarAtPlace.{MeansAt, ExceedsAt, NothingAt, IsUnread};
+ghost use Rattle.smithy_cbor_values.specs.Private.ScalarAtPlace.{FindsWithin, IsUnread};
 ghost use Rattle.smithy_wire.specs.Finding.{MatchFound};
 
 use crate::places::{decoder_at, may_end};
@@ -49,8 +49,7 @@ pub fn big_integer_at(
     depth: usize,
 ) -> Result<Found<(BigInteger, usize)>, AllocError>
     requires { at ≤ length input.now }
-    ensures found { IfOk result (λ f. MatchFound f (λ r. MeansAt scalars.BigInteger input.now at depth (whole (number_of r.0)) r.1)
-        (NothingAt scalars.BigInteger input.now at depth) (ExceedsAt scalars.BigInteger input.now at depth)) }
+    ensures found { IfOk result (FindsWithin scalars.BigInteger (λ n. whole (number_of n)) input.now at depth) }
     ensures fits { IfOk result (λ f. MatchFound f (λ r. FitsSigned w128 (number_of r.0)) (Unit {0}) (Unit {0})) }
     ensures text { IfOk result (λ f. MatchFound f (λ r. r.0 ≡ signed_decimal (number_of r.0)) (Unit {0}) (Unit {0})) }
 {
@@ -75,8 +74,7 @@ pub fn big_decimal_at(
     depth: usize,
 ) -> Result<Found<(BigDecimal, usize)>, AllocError>
     requires { at ≤ length input.now }
-    ensures found { IfOk result (λ f. MatchFound f (λ r. MeansAt scalars.BigDecimal input.now at depth (decimal (mantissa r.0) (net_exponent r.0)) r.1)
-        (NothingAt scalars.BigDecimal input.now at depth) (ExceedsAt scalars.BigDecimal input.now at depth)) }
+    ensures found { IfOk result (FindsWithin scalars.BigDecimal (λ n. decimal (mantissa n) (net_exponent n)) input.now at depth) }
     ensures fits { IfOk result (λ f. MatchFound f (λ r. FitsSigned w128 (mantissa r.0)) (Unit {0}) (Unit {0})) }
     ensures text { IfOk result (λ f. MatchFound f (λ r. r.0 ≡ decimal_text (mantissa r.0) (net_exponent r.0)) (Unit {0}) (Unit {0})) }
 {

@@ -97,7 +97,7 @@ module _ (c : Compare) (old new : Outside) (text first second : List ℕ) (table
   complete_of TooLong (inr (inr after)) =
       let long = of_first (λ t r b. IsTooLong longest_input (old.files c.second.path)) after in
       absurd (too_long longest_input (old.files c.second.path) second long o.second_file.told o.second_file.within)
-  complete_of (TableRefused fault) (inl says) = let is = accepted_there says.0 says.1 in let told = says.2.2 in absurd (cc (is, told))
+  complete_of (TableRefused fault) (inl says) = let is = accepted_there says.0 says.1 in let told = says.2.3 in absurd (cc (is, told))
   complete_of NoSuchShape (inl says) =
       let none = of_table (λ (t : Table). declared_as t c.root_name ≡ None) says in let is = o.is_root.named in absurd (cc (none, is))
   complete_of NotAStructure (inl says) =

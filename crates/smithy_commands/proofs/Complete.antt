@@ -87,7 +87,7 @@ module _ (task : Transcode) (old new : Outside) (text input : List ℕ) (table :
       let same : v ≡ read.2.0 = one_value task.from there.0 found.0 read.0 v read.2.0 spelled read.2.1 in
       absurd (not_both (unfit task.to there.0 found.0 v) u (fit_there there.0 found.0 t r) (ap (unfit task.to there.0 found.0) same ∙ read.2.2))
   complete_of (TableRefused fault) says =
-      let after = says.1 in let same = accepted_there after.0 after.1 in let told = after.2.2 in absurd (cc (same, told))
+      let after = says.1 in let same = accepted_there after.0 after.1 in let told = after.2.3 in absurd (cc (same, told))
   complete_of NoSuchShape says =
       let after = says.1 in
       let there = named_there after.2.0 (same_table after.0 after.1 after.2.0 after.2.1) in let none = after.2.2 in absurd (cc (there, none))

@@ -72,7 +72,7 @@ AfterInput root_name old new P =
 abbrev pub BeforeInput : Sources → Sources → Type 0 → Type 0
 BeforeInput old new P = (new.input ≡ old.input) × P
 
--- the answer is the fault with its number
+-- the answer is the fault with its number; a fault has a name, too
 abbrev pub IsRefusal : TableFault → TableAnswer → Type 0
 IsRefusal fault answer =
     (f : Fault) × (name : List ℕ) × (n : ℕ) × (answer ≡ refused f n) × (refusal_of fault ≡ Some (f, name, n))

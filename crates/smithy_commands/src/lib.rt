@@ -1,8 +1,7 @@
 //! One run of the program, over any files, source and sinks: its words, the command that they are, and how it ends.
 //!
 //! `run` takes the words, the objects of smithy_outside that it reads and writes, and answers the number that the
-//! program ends with. `exit_code` answers it as what a process ends with, and `run_on_system` takes the arguments, files and
-//! streams of a process.
+//! program ends with. `run_on_system` takes the arguments, files and streams of a process.
 #![tactic(auto)]
 
 mod checks;

@@ -1,4 +1,4 @@
--- The bytes that RFC 8259 names, under its names (sections 2, 6 and 7).
+-- The bytes that RFC 8259 names, under its names (sections 2, 6 and 7). Some letters of escapes stand where they are read.
 use Rattle.std.specs.Prelude.{ℕ, Bool, ◌||◌, ◌&&◌, ◌==◌, nat_le}
 use Rattle.std.specs.Str.{byte}
 

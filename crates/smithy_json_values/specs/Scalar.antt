@@ -78,7 +78,7 @@ big_number _ raw = no_meaning
 
 -- what the text of a number is as a kind of big numbers, where there is such a text
 abbrev pub number_says : Scalar → Option (List ℕ) → Answer Value
-number_says s number = option_map_or (big_number s) number no_meaning
+number_says s written = option_map_or (big_number s) written no_meaning
 
 -- the instant of so many seconds, in nanoseconds where these are whole: another number of seconds isn't carried
 abbrev pub seconds_read_as : Option ℤ → Answer Value
@@ -137,7 +137,7 @@ says c scalars.BigDecimal time x = number_says scalars.BigDecimal (number_text x
 
 -- what a number is as a document: another one than a document holds isn't carried
 abbrev pub held_says : Option Number → Answer (Document Number)
-held_says number = option_map_or (λ n. means (documents.number n)) number uncarried
+held_says held = option_map_or (λ n. means (documents.number n)) held uncarried
 
 -- what a scalar is as a document
 abbrev pub document_says : JsonScalar → Answer (Document Number)

@@ -25,7 +25,7 @@ json_rules c = token_rules (json_grammar c) c
 abbrev pub json_relations : Settings → Relations
 json_relations c = token_relations (json_grammar c) c
 
--- what the calls of a reader of JSON are told by: all that is said of the lifted relations holds where reading is strict
+-- what the calls of a reader of JSON are told by; what its refusals say of the lifted relations, they say where reading is strict
 abbrev pub json_reader : Settings → Reader
 json_reader c = reader (json_relations c) (json_relations (without_limits c)) (c.enforce_strictness ≡ true) c.max_depth
 

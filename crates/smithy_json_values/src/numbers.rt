@@ -12,7 +12,7 @@ ghost use Rattle.smithy_json_values.specs.LexicalGrammar.{grammar_of};
 ghost use Rattle.smithy_json_values.specs.Scalar.{big_number};
 ghost use Rattle.smithy_json_values.specs.NumberText.{NumberTextLies};
 ghost use Rattle.smithy_json_values.specs.Private.NumberSorts.{is_big_sort, kind_of_sort};
-ghost use Rattle.smithy_json_values.specs.Private.ScalarAtPlace.{Finds, MeansAt, ExceedsAt, NothingAt};
+ghost use Rattle.smithy_json_values.specs.Private.ScalarAtPlace.{Finds, FindsWithin};
 ghost use Rattle.smithy_wire.specs.Rules.{means, no_meaning, wide};
 ghost use Rattle.smithy_wire.specs.Finding.{MatchFound};
 
@@ -90,7 +90,7 @@ pub fn big_integer_at(
     settings: &Settings,
 ) -> Result<Found<(BigInteger, usize)>, AllocError>
     requires { at ≤ length input.now }
-    ensures found { IfOk result (λ f. MatchFound f (λ r. MeansAt (grammar_of (held_settings settings.now)) scalars.BigInteger input.now at (whole (number_of r.0)) r.1) (NothingAt (grammar_of (held_settings settings.now)) scalars.BigInteger input.now at) (ExceedsAt (grammar_of (held_settings settings.now)) scalars.BigInteger input.now at)) }
+    ensures found { IfOk result (FindsWithin (grammar_of (held_settings settings.now)) scalars.BigInteger (λ n. whole (number_of n)) input.now at) }
     ensures text { IfOk result (λ f. MatchFound f (λ r. NumberTextLies (grammar_of (held_settings settings.now)) scalars.BigInteger input.now at r.0 r.1) (Unit {0}) (Unit {0})) }
     ensures fits { IfOk result (λ f. MatchFound f (λ r. FitsSigned w128 (number_of r.0)) (Unit {0}) (Unit {0})) }
 {
@@ -113,7 +113,7 @@ pub fn big_decimal_at(
     settings: &Settings,
 ) -> Result<Found<(BigDecimal, usize)>, AllocError>
     requires { at ≤ length input.now }
-    ensures found { IfOk result (λ f. MatchFound f (λ r. MeansAt (grammar_of (held_settings settings.now)) scalars.BigDecimal input.now at (decimal (mantissa r.0) (net_exponent r.0)) r.1) (NothingAt (grammar_of (held_settings settings.now)) scalars.BigDecimal input.now at) (ExceedsAt (grammar_of (held_settings settings.now)) scalars.BigDecimal input.now at)) }
+    ensures found { IfOk result (FindsWithin (grammar_of (held_settings settings.now)) scalars.BigDecimal (λ n. decimal (mantissa n) (net_exponent n)) input.now at) }
     ensures text { IfOk result (λ f. MatchFound f (λ r. NumberTextLies (grammar_of (held_settings settings.now)) scalars.BigDecimal input.now at r.0 r.1) (Unit {0}) (Unit {0})) }
     ensures fits { IfOk result (λ f. MatchFound f (λ r. FitsSigned w128 (mantissa r.0)) (Unit {0}) (Unit {0})) }
 {

@@ -1,5 +1,5 @@
 -- Shapes whose mixins are taken in one after the other.
-use Rattle.std.proofs.Common.{◌≡◌, ◌≢◌, ◌⊎◌, ◌<◌, ◌≤◌, ◌+◌, ◌∙◌, inl, inr, ⊎_elim, ℕ, zero, suc, List, [], ◌∷◌, length, map, set, get_or, slice_get, bytes_eq, MatchBool, Option, Some, None, Ok, Err, option_map, refl, sym, ap, subst, arith, length-set, true≢false}
+use Rattle.std.proofs.Common.{◌≡◌, ◌≢◌, ◌⊎◌, ◌<◌, ◌≤◌, ◌+◌, ◌∙◌, inl, inr, ⊎_elim, ℕ, zero, suc, List, [], ◌∷◌, length, map, set, get_or, slice_get, bytes_eq, MatchBool, Option, Some, None, option_map, refl, sym, ap, subst, arith, length-set, true≢false}
 use Rattle.std.specs.Prelude.{◌==◌, Bool, true, false, not, ◌||◌, ◌&&◌, unwrap_or}
 use Rattle.std.specs.List.{AllZip, list_any}
 use Rattle.std.proofs.lemmas.Option.{none-some, slice_get-map, slice_get-get_or, slice_get_within}
@@ -10,7 +10,7 @@ use Rattle.smithy_model.specs.Mixins.{takes_mixins, IsWith, IsMixed, is_done, Is
 use Rattle.smithy_model.specs.declared.fault.ModelFault.{ModelFault}
 use Rattle.smithy_model.specs.declared.fault.ModelFault.TheVariants as faults
 use Rattle.smithy_model.specs.Faults.{RefusesMixins}
-use Rattle.smithy_model.specs.Mixing.{IsHalfMixed, AreHalfMixed, IsWaiting, IsHeldUp, IsSettledAt, TakesIn, TakesMixins, IsAtOdds, RefusesOne, RefusesHere, count_of_waiting}
+use Rattle.smithy_model.specs.Mixing.{IsHalfMixed, AreHalfMixed, IsWaiting, IsHeldUp, IsSettledAt, TakesIn, IsAtOdds, RefusesOne, RefusesHere, count_of_waiting}
 use Rattle.smithy_model.specs.Reading.{ids_of}
 
 some_is : {A : Type 0} (x y : A) → Some x ≡ Some y → x ≡ y
@@ -407,16 +407,6 @@ refused_before old shapes before done faults.NotAModel uses takes one = absurd o
 refused_before old shapes before done (faults.BadShape id) uses takes one = absurd one
 refused_before old shapes before done (faults.UnknownTarget id) uses takes one = absurd one
 refused_before old shapes before done (faults.Applied id) uses takes one = absurd one
-
--- what a call says where it takes in nothing
-pub takes_nothing : {A : Type 0} {a : A} (shapes : List Shape) (done : List Bool) → TakesMixins shapes shapes done done (Ok a)
-takes_nothing shapes done = record { mixed = λ own half. half; uses = refl; refused = tt }
-
--- where one shape refuses, behind those that were taken in before
-pub one_refuses : {A : Type 0} {new : List Shape} {behind : List Bool} (old shapes : List Shape) (before done : List Bool) (fault : ModelFault)
-    → uses_of shapes ≡ uses_of old → TakesIn old shapes before done → RefusesHere shapes done fault → TakesMixins {A = A} old new before behind (Err fault)
-one_refuses old shapes before done fault uses takes one =
-    record { mixed = tt; uses = tt; refused = refused_before old shapes before done fault uses takes one }
 
 pub all_refused : (own : List Shape) (done : List Bool) (fault : ModelFault) → AreHalfMixed own own done → RefusesHere own done fault → RefusesMixins own fault
 all_refused own done (faults.BadMixin id) half (inl missing) = inl missing

@@ -1,10 +1,12 @@
 -- Mixins that are taken in one shape after the other.
-use Rattle.std.proofs.Common.{◌≡◌, ◌<◌, ◌∙◌, ℕ, List, ◌∷◌, [], ◌++◌, refl, arith}
+use Rattle.std.proofs.Common.{◌≡◌, ◌<◌, ◌∙◌, ℕ, List, ◌∷◌, [], ◌++◌, Err, refl, arith}
 use Rattle.std.specs.Prelude.{Bool}
 use Rattle.std.proofs.lemmas.List.{length-append}
+use Rattle.smithy_model.specs.declared.fault.ModelFault.{ModelFault}
 use Rattle.smithy_model.specs.Model.{Shape}
 use Rattle.smithy_model.specs.Mixins.{uses_of}
-use Rattle.smithy_model.specs.Mixing.{TakesIn, TakesInMore, count_of_waiting}
+use Rattle.smithy_model.specs.Mixing.{TakesIn, TakesInMore, TakesMixins, RefusesHere, count_of_waiting}
+use Rattle.smithy_model.proofs.Mixing.{refused_before}
 
 pub takes_none : (shapes : List Shape) (done : List Bool) (order : List ℕ) → TakesInMore shapes done order shapes done order
 takes_none shapes done order = record { mixed = λ own half. half; uses = refl; fit = omega arith }
@@ -26,3 +28,9 @@ takes_one old shapes new before done behind order next n so_far takes uses fewer
   uses = uses ∙ so_far.uses;
   fit = omega (arith, so_far.fit, fewer, length-append next (n ∷ []));
 }
+
+-- where one shape refuses, behind those that were taken in before
+pub one_refuses : {A : Type 0} {new : List Shape} {behind : List Bool} (old shapes : List Shape) (before done : List Bool) (fault : ModelFault)
+    → uses_of shapes ≡ uses_of old → TakesIn old shapes before done → RefusesHere shapes done fault → TakesMixins {A = A} old new before behind (Err fault)
+one_refuses old shapes before done fault uses takes one =
+    record { mixed = tt; uses = tt; refused = refused_before old shapes before done fault uses takes one }

@@ -138,7 +138,7 @@ pub record Writes {E : Type 0} (old new : Shown) (piece : List ℕ) (result : Re
   pub counts : IsCounted result old new
   pub later : old.faults ≤ new.faults
 
--- what a sink answers that is to pass on what it holds back
+-- what a sink answers that is to pass on what it holds back, and whether it holds something back then
 pub record Finishes {E : Type 0} (old new : Shown) (holds_back : Bool) (result : Result (Unit {0}) E) : Type 0 where
   pub took : Took [] old new
   pub passed_on : OnOk result (holds_back ≡ false)

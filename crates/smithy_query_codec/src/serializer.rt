@@ -1,9 +1,9 @@
 //! Writing a form as a schema directs.
-ghost use Rattle.std.specs.Prelude.{◌≡◌, ◌↔◌, ◌++◌, ◌∷◌, [], take, length, true, false, OnOk, IfOk, IfErr, IsErrOf, Ok, Err, ◌&&◌};
+ghost use Rattle.std.specs.Prelude.{◌≡◌, ◌↔◌, ◌++◌, ◌∷◌, [], take, length, true, false, OnOk, IfOk, IfErr, IsErr, IsErrOf, Ok, Err, ◌&&◌};
 ghost use Rattle.smithy_schema.specs.declared.error.SerdeError.TheVariants.{Failed, Unwritable};
 ghost use Rattle.smithy_schema.specs.Errors.{IsFault};
 ghost use Rattle.smithy_shapes.specs.Site.{site_of};
-ghost use Rattle.smithy_schema.specs.Writing.{Makes, after_value, after_text};
+ghost use Rattle.smithy_schema.specs.Writing.{after_value, after_text};
 ghost use Rattle.smithy_query.specs.Form.{pair_text};
 ghost use Rattle.smithy_query_codec.specs.Leaves.{form_at};
 ghost use Rattle.smithy_query_codec.specs.Writing.{QueryState, fresh_state, empty_leaf, child_count, child_prefix, has_room as is_room, is_placed as is_place, is_key_due as is_key_place, wrote, allowed, where_taken, query_after};
@@ -176,9 +176,14 @@ impl QueryShapeSerializer {
 
     // Writes a leaf where a value is due.
     fn write_text(&mut self, schema: &Schema<'_>, text: &str) -> Result<(), SerdeError>
-        ensures { Makes (where_taken (wrote (state_of self.old) (site_of schema.now).view text.now)
+        ensures failed { IsErrOf result Failed ↔ (has_failed self.old ≡ true) }
+        ensures broken { IsErr result ↔ (has_failed self.new ≡ true) }
+        ensures ok { OnOk result (where_taken (wrote (state_of self.old) (site_of schema.now).view text.now)
             (allowed (is_place (state_of self.old).opens (site_of schema.now).view && is_room (state_of self.old).opens (state_of self.old).count)
-            (after_value (state_of self.old).opens))) (has_failed self.old) (state_of self.new) (has_failed self.new) result }
+            (after_value (state_of self.old).opens)) ≡ Ok (state_of self.new)) }
+        ensures refused { IfErr result (λ e. IsFault e
+            → allowed (is_place (state_of self.old).opens (site_of schema.now).view && is_room (state_of self.old).opens (state_of self.old).count)
+            (after_value (state_of self.old).opens) ≡ Err e) }
     {
         self.containers.begin()?;
         if !is_placed(&self.containers, schema) {
@@ -196,8 +201,12 @@ impl QueryShapeSerializer {
     // Writes the key of an entry where one is due; its value is due then.
     fn write_key(&mut self, schema: &Schema<'_>, key: &str) -> Result<(), SerdeError>
         requires { is_key_place (state_of self.old).opens ≡ true }
-        ensures { Makes (where_taken (wrote (state_of self.old) (site_of schema.now).view key.now)
-            (allowed (is_room (state_of self.old).opens (state_of self.old).count) (after_text (state_of self.old).opens))) (has_failed self.old) (state_of self.new) (has_failed self.new) result }
+        ensures failed { IsErrOf result Failed ↔ (has_failed self.old ≡ true) }
+        ensures broken { IsErr result ↔ (has_failed self.new ≡ true) }
+        ensures ok { OnOk result (where_taken (wrote (state_of self.old) (site_of schema.now).view key.now)
+            (allowed (is_room (state_of self.old).opens (state_of self.old).count) (after_text (state_of self.old).opens)) ≡ Ok (state_of self.new)) }
+        ensures refused { IfErr result (λ e. IsFault e
+            → allowed (is_room (state_of self.old).opens (state_of self.old).count) (after_text (state_of self.old).opens) ≡ Err e) }
     {
         self.containers.begin()?;
         if !has_room(&self.containers, self.count) {

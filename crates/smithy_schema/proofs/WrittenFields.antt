@@ -142,7 +142,7 @@ never_failed after es s r (ran is) e same = λ failed. absurd (let h = same in c
 never_failed after es s r (broke {e = f} sound fault) e same = λ failed. sound (other_error f e same ∙ failed)
 
 not_both : {P : Type 0} (b : Bool) → b ≡ false → b ≡ true → P
-not_both b no yes = absurd (let clash : false ≡ true = sym no ∙ yes in cc)
+not_both b is_false is_true = absurd (let clash : false ≡ true = sym is_false ∙ is_true in cc)
 
 -- the error that comes after a failure comes from the first call alone
 wraps_failed : {S : Type 0} (after : Writer S) (begins ends : Event) (es : List Event) (had : Bool) (s : S) (r : Result S SerdeError) → Wraps after begins ends (Runs after es) had s r → (e : SerdeError) → r ≡ Err e

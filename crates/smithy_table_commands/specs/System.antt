@@ -8,7 +8,7 @@ use Rattle.smithy_table_commands.specs.declared.status.Status.TheVariants.{Usage
 use Rattle.smithy_table_commands.specs.Status.{status_code, line_of}
 use Rattle.smithy_table_commands.specs.RunAnswer.{RunAnswer}
 
--- what the real files and streams tell before a run: none of them met a fault, and the output holds nothing back
+-- what the real files and streams tell before a run: none of them met a fault
 abbrev pub at_start : Shown
 at_start = only_counts 0
 
@@ -17,7 +17,8 @@ abbrev pub EndsWithLine : Status → ℕ → Type 0
 EndsWithLine status code =
     (new : Shown) × (holds_back : Bool) × TookLine (line_of status) at_start new holds_back × (code ≡ status_code status)
 
--- a process with these words ends as a run over the real files and streams does, if memory for the words isn't wanting
+-- a process with these words ends as a run over the real files and streams does, whose output holds nothing back before it, if memory
+-- for the words isn't wanting
 abbrev pub EndsAsRun : List (List ℕ) → ℕ → Type 0
 EndsAsRun words code =
     ((files : List ℕ → Shown) × (out err : Shown) × (out_holds_back err_holds_back : Bool)

@@ -29,7 +29,8 @@ abbrev pub IsAnswered : Table → (root : ℕ) → (from to : Wire) → (input :
 IsAnswered table root from to input status bytes =
     (answer : Answer) × Transcodes table root from input to answer × IsPut answer status bytes
 
--- so many bodies are answered, each of which lies in the input, by its own: their statuses, their bytes one behind another, and where each of them ends
+-- so many bodies lie in the input, and each is answered by itself: their statuses, their bytes one behind another, and where each of
+-- them ends
 pub data AreAnswered (table : Table) (root : ℕ) (from to : Wire) (ends input : List ℕ) : (count : ℕ) → (out_ends statuses bytes : List ℕ) → Type 0 where
   none : AreAnswered table root from to ends input 0 [] [] []
   more : (n : ℕ) (out_ends statuses bytes : List ℕ) (status : ℕ) (body : List ℕ) → AreAnswered table root from to ends input n out_ends statuses bytes

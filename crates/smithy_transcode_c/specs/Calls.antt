@@ -63,11 +63,11 @@ RefusesRoot table name NotAStructure =
     (root : ℕ) × (declared_as table name ≡ Some root) × ¬ IsStructure (kind_of table (shape_place root))
 RefusesRoot table name _ = ⊥
 
--- both numbers are those of a wire
+-- both wires that are asked for are there: their numbers, and the action and the version of a form
 abbrev pub HasWires : Asked → Type 0
 HasWires asked = (source_wire asked.from ≢ None) × (target_wire asked ≢ None)
 
--- why a call has nothing to transcode: the wires come before the root, and memory is wanted for none that is missing
+-- why a call has nothing to transcode: the wires come before the root, and want of memory is told only where both wires are there
 abbrev pub Refuses : Table → Asked → Refusal → Type 0
 Refuses table asked Usage = (source_wire asked.from ≡ None) ⊎ (target_wire asked ≡ None)
 Refuses table asked OutOfMemory = HasWires asked

@@ -10,7 +10,6 @@ mod ReadDeep
 mod ReadTypes
 mod ReadViews
 pub mod ReadWide
-mod Refused
 pub mod Standing
 pub mod Structures
 pub mod Unions

@@ -71,6 +71,12 @@ pub record UncarriedAt (s : Scalar) (input : List ℕ) (at depth : ℕ) : Type 0
 abbrev pub NothingAt : Scalar → List ℕ → ℕ → ℕ → Type 0
 NothingAt s input at depth = (x : Item) (e : ℕ) → IsScalarAt input depth x at e → says s None x ≡ no_meaning
 
+-- a search for a number of this kind found what stands there, as this shows it, with its end; or that none stands there; or one that
+-- leaves the limits of the kind
+abbrev pub FindsWithin : {A : Type 0} → Scalar → (A → ScalarValue) → List ℕ → ℕ → ℕ → Found (A × ℕ) → Type 0
+FindsWithin s shown input at depth found =
+    MatchFound found (λ r. MeansAt s input at depth (shown r.0) r.1) (NothingAt s input at depth) (ExceedsAt s input at depth)
+
 -- what is found where a decoder reads no big number for this cause, unless memory ran out
 abbrev pub IsUnread : {A : Type 0} → DecodeKind → List ℕ → ℕ → ℕ → Found A → Type 0
 IsUnread kind input at depth found = MatchFound found (λ _. ⊥)

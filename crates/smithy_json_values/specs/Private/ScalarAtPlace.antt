@@ -9,6 +9,8 @@ use Rattle.smithy_declarations.specs.Value.{ScalarValue, instant, scalar_value}
 use Rattle.smithy_json_values.specs.Settings.{Settings}
 use Rattle.smithy_json_values.specs.Scalar.{JsonScalar, a_number, a_string, bytes_of, number_text, integer_of, number_says, timestamp_says}
 use Rattle.smithy_json_values.specs.LexicalGrammar.{LexicalGrammar, LiesInGrammar}
+use Rattle.smithy_wire.specs.declared.found.Found.{Found}
+use Rattle.smithy_wire.specs.Finding.{MatchFound}
 use Rattle.smithy_wire.specs.Rules.{means, no_meaning, wide, uncarried}
 
 -- a search found what stands there, as this shows it, with its end, or nothing where nothing does
@@ -50,6 +52,12 @@ pub record ExceedsAt (g : LexicalGrammar) (s : Scalar) (input : List ℕ) (at : 
 -- whatever scalar lies at the place, it means nothing as the kind
 abbrev pub NothingAt : LexicalGrammar → Scalar → List ℕ → ℕ → Type 0
 NothingAt g s input at = (x : JsonScalar) (e : ℕ) → LiesInGrammar g s x input at e → number_says s (number_text x) ≡ no_meaning
+
+-- a search for a number of this kind found what lies there, as this shows it, with its end; or that none lies there; or one that
+-- leaves the limits of the kind
+abbrev pub FindsWithin : {A : Type 0} → LexicalGrammar → Scalar → (A → ScalarValue) → List ℕ → ℕ → Found (A × ℕ) → Type 0
+FindsWithin g s shown input at found =
+    MatchFound found (λ r. MeansAt g s input at (shown r.0) r.1) (NothingAt g s input at) (ExceedsAt g s input at)
 
 -- a scalar lies at the place that is this instant, where instants have this form or none
 pub record InstantLies (g : LexicalGrammar) (c : Settings) (time : Option TimestampFormat) (input : List ℕ) (at : ℕ) (n : ℤ) (e : ℕ) : Type 0 where

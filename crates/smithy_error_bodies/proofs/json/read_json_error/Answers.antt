@@ -36,7 +36,7 @@ returns-then-begins_object-clause-memory c =
 
 pub returns-in_err-token-clause-memory : goal.returns-in_err-token-clause-memory
 returns-in_err-token-clause-memory c =
-    let p = err_from_is_err_and c.from_residual.result c.from_residual.ensures.1 in
+    let p = err_from_is_err_and c.from_residual-in_err-token.result c.from_residual-in_err-token.ensures.1 in
     let step = subst (λ item. GivesNext c.in_ok-tokens.tokens (Some item) c.next.new.self) c.in_err-token.was c.in-Some.ensures.steps in
     rw p.1 (λ memory. memory_first c.args.body.now c.in_ok-tokens.tokens c.next.new.self c.in_err-token.field-0.0 c.in_ok-tokens.ensures.cursor step.1
     (λ other. let invalid = p.2.1 other in cc (invalid, memory)))

@@ -1,4 +1,4 @@
-use Rattle.std.proofs.Common.{◌≡◌, ◌++◌, ◌^◌, append_assoc, arith}
+use Rattle.std.proofs.Common.{append_assoc, arith}
 use Rattle.itoa.proofs.Decimal.{decimal_pair}
 use Rattle.smithy_json_codec.proofs.digits.push_short.Goals as goal
 

@@ -94,11 +94,10 @@ returns-in_err-end c =
 pub returns-in_default : goal.returns-in_default
 returns-in_default c =
     let stands = rw c.in-Some-Member.field-0-is at c.in-Some-Member.ensures in
-    let wordless = inr (inl (c.in-Some-Member.name.raw.now, c.in-Some-Member.name.end, stands.names, c.in_ok-text.ensures.text ∙ ap (option_map cow_str_bytes) c.in_default.is)) in
     record {
       ok = tt;
-      refused = λ other. wordless;
-      none_without_limits = λ invalid. wordless;
+      refused = λ other. inr (inl (c.in-Some-Member.name.raw.now, c.in-Some-Member.name.end, stands.names, c.in_ok-text.ensures.text ∙ ap (option_map cow_str_bytes) c.in_default.is));
+      none_without_limits = λ invalid. inr (inl (c.in-Some-Member.name.raw.now, c.in-Some-Member.name.end, stands.names, c.in_ok-text.ensures.text ∙ ap (option_map cow_str_bytes) c.in_default.is));
       deep = λ h. cc;
       too_deep = λ h. cc;
     }

@@ -1,8 +1,8 @@
 use Rattle.std.proofs.Common.{◌∙◌, map}
 use Rattle.std.proofs.lemmas.Result.{err_from_is_err_and}
 use Rattle.smithy_model.specs.Views.{shape_view}
-use Rattle.smithy_model.proofs.Mixing.{ids_kept, one_refuses}
-use Rattle.smithy_model.proofs.Taking.{takes_both}
+use Rattle.smithy_model.proofs.Mixing.{ids_kept}
+use Rattle.smithy_model.proofs.Taking.{takes_both, one_refuses}
 use Rattle.smithy_model.proofs.mixin_order.take_in_order.Goals as goal
 
 pub take_in_users-requires : goal.take_in_users-requires

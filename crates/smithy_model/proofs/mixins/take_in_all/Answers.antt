@@ -1,7 +1,8 @@
 use Rattle.std.proofs.Common.{◌∙◌, map, refl}
 use Rattle.std.proofs.lemmas.Result.{err_from_is_err_and}
 use Rattle.smithy_model.specs.Views.{shape_view}
-use Rattle.smithy_model.proofs.Mixing.{ids_kept, one_refuses}
+use Rattle.smithy_model.proofs.Mixing.{ids_kept}
+use Rattle.smithy_model.proofs.Taking.{one_refuses}
 use Rattle.smithy_model.proofs.mixins.take_in_all.Goals as goal
 
 pub loop-init : goal.loop-init

@@ -3,7 +3,8 @@ use Rattle.std.proofs.lemmas.Result.{err_from_is_err_and}
 use Rattle.std.proofs.lemmas.List.{length-map}
 use Rattle.smithy_model.specs.Mixing.{IsSettledAt}
 use Rattle.smithy_model.specs.Views.{shape_view}
-use Rattle.smithy_model.proofs.Mixing.{ids_kept, all_settled, one_refuses}
+use Rattle.smithy_model.proofs.Mixing.{ids_kept, all_settled}
+use Rattle.smithy_model.proofs.Taking.{one_refuses}
 use Rattle.smithy_model.proofs.mixins.take_in_some.Goals as goal
 
 pub loop-number-init : goal.loop-number-init

@@ -21,4 +21,4 @@ returns c =
     let ws = c.args.model.now.operations.items in
     let all : length ws ≤ c.loop-operation.operation-index = search rules in
     let held = subst (λ (os : List kept.Operation). AreNamedBy (map operation_view os) c.loop-operation.roles) (take_all c.loop-operation.operation-index ws all) c.loop-operation.invariant in
-    λ is. record { inputs = held.inputs; outputs = held.outputs; errors = held.errors; nested = c.in_ok-nested.ensures }
+    λ is. record { inputs = held.inputs; outputs = held.outputs; errors = held.errors; nested = c.in_ok-roles.ensures }
