@@ -13,6 +13,8 @@ mod errors;
 #[cfg(test)]
 mod forms;
 #[cfg(test)]
+mod kinds;
+#[cfg(test)]
 mod library;
 #[cfg(test)]
 mod names;

@@ -3,7 +3,7 @@ ghost use Rattle.std.specs.Prelude.{◌≡◌, [], true, false, IfOk, IsErr, str
 ghost use Rattle.smithy_declarations.specs.declared.shape_type.Scalar.{Scalar};
 ghost use Rattle.smithy_declarations.specs.declared.shape_type.Scalar.TheVariants as scalars;
 ghost use Rattle.smithy_declarations.specs.Table.{IsList};
-ghost use Rattle.smithy_declarations.specs.Value.{ScalarValue, text, bytes, whole, instant};
+ghost use Rattle.smithy_declarations.specs.Value.{ScalarValue, boolean, text, bytes, whole, instant};
 ghost use Rattle.smithy_shapes.specs.Site.{site_of, kind_at};
 ghost use Rattle.smithy_schema.specs.Reading.{ReadsScalar};
 ghost use Rattle.smithy_schema.specs.Elements.{ReadsElement, ReadsList, items_of};
@@ -56,6 +56,45 @@ impl ReadScalar for Blob {
         schema: &Schema<'_>,
     ) -> Result<Blob, SerdeError> {
         source.read_blob(schema)
+    }
+}
+
+impl ReadScalar for bool {
+    ghost kind = { scalars.Boolean };
+
+    ghost scalar = { boolean };
+
+    fn read_from<D: ShapeDeserializer>(
+        source: &mut D,
+        schema: &Schema<'_>,
+    ) -> Result<bool, SerdeError> {
+        source.read_boolean(schema)
+    }
+}
+
+impl ReadScalar for i8 {
+    ghost kind = { scalars.Byte };
+
+    ghost scalar = { whole };
+
+    fn read_from<D: ShapeDeserializer>(
+        source: &mut D,
+        schema: &Schema<'_>,
+    ) -> Result<i8, SerdeError> {
+        source.read_byte(schema)
+    }
+}
+
+impl ReadScalar for i16 {
+    ghost kind = { scalars.Short };
+
+    ghost scalar = { whole };
+
+    fn read_from<D: ShapeDeserializer>(
+        source: &mut D,
+        schema: &Schema<'_>,
+    ) -> Result<i16, SerdeError> {
+        source.read_short(schema)
     }
 }
 

@@ -13,7 +13,7 @@ use crate::read::ShapeDeserializer;
 use crate::write::ShapeSerializer;
 use crate::written::{SerializableStruct, WriteElements};
 use smithy_shapes::Schema;
-use smithy_types::DateTime;
+use smithy_types::{Blob, DateTime};
 
 /// Reads the scalar that is due into the field of its member.
 pub fn read_field<T: ReadScalar + Drop, D: ShapeDeserializer>(
@@ -59,6 +59,62 @@ impl WriteMember for String {
     }
 }
 
+impl WriteMember for Blob {
+    ghost use Rattle.smithy_declarations.specs.Value.{bytes};
+
+    ghost value = { λ b. scalar_value (bytes b) };
+
+    fn write_member<S: ShapeSerializer>(
+        &self,
+        sink: &mut S,
+        member: &Schema<'_>,
+    ) -> Result<(), SerdeError> {
+        sink.write_blob(member, self)
+    }
+}
+
+impl WriteMember for bool {
+    ghost use Rattle.smithy_declarations.specs.Value.{boolean};
+
+    ghost value = { λ b. scalar_value (boolean b) };
+
+    fn write_member<S: ShapeSerializer>(
+        &self,
+        sink: &mut S,
+        member: &Schema<'_>,
+    ) -> Result<(), SerdeError> {
+        sink.write_boolean(member, *self)
+    }
+}
+
+impl WriteMember for i8 {
+    ghost use Rattle.smithy_declarations.specs.Value.{whole};
+
+    ghost value = { λ n. scalar_value (whole n) };
+
+    fn write_member<S: ShapeSerializer>(
+        &self,
+        sink: &mut S,
+        member: &Schema<'_>,
+    ) -> Result<(), SerdeError> {
+        sink.write_byte(member, *self)
+    }
+}
+
+impl WriteMember for i16 {
+    ghost use Rattle.smithy_declarations.specs.Value.{whole};
+
+    ghost value = { λ n. scalar_value (whole n) };
+
+    fn write_member<S: ShapeSerializer>(
+        &self,
+        sink: &mut S,
+        member: &Schema<'_>,
+    ) -> Result<(), SerdeError> {
+        sink.write_short(member, *self)
+    }
+}
+
 impl WriteMember for i32 {
     ghost use Rattle.smithy_declarations.specs.Value.{whole};
 
@@ -70,6 +126,20 @@ impl WriteMember for i32 {
         member: &Schema<'_>,
     ) -> Result<(), SerdeError> {
         sink.write_integer(member, *self)
+    }
+}
+
+impl WriteMember for i64 {
+    ghost use Rattle.smithy_declarations.specs.Value.{whole};
+
+    ghost value = { λ n. scalar_value (whole n) };
+
+    fn write_member<S: ShapeSerializer>(
+        &self,
+        sink: &mut S,
+        member: &Schema<'_>,
+    ) -> Result<(), SerdeError> {
+        sink.write_long(member, *self)
     }
 }
 

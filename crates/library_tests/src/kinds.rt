@@ -1,0 +1,115 @@
+//! A structure with a field of each small kind of scalar, read and written as docs/TYPED_CLIENTS.md shows it.
+ghost use Rattle.smithy_shapes.specs.Site.{site_of};
+
+use smithy_json_codec::JsonCodec;
+use smithy_schema::{
+    FinishSerializer, Schema, SerdeError, SerializableStruct, ShapeDeserializer, ShapeSerializer,
+    ShapeType, Shapes, StructConsumer, TableText, read_field, write_field,
+};
+use smithy_types::Blob;
+use std::test::Fail;
+
+const TABLE: &[u8] =
+    b"structure S\nmember truth boolean\nmember byte byte\nmember short short\nmember long long\nmember bytes blob\n";
+
+// The fields in the order of the table.
+#[derive(Drop)]
+struct Fields {
+    truth: Option<bool>,
+    byte: Option<i8>,
+    short: Option<i16>,
+    long: Option<i64>,
+    bytes: Option<Blob>,
+}
+
+impl StructConsumer for Fields {
+    // The test tells what it reads.
+    ghost call = { λ _ _ _ _ _ _ _. Unit {0} };
+
+    fn member<D: ShapeDeserializer>(
+        &mut self,
+        member: Option<&Schema<'_>>,
+        source: &mut D,
+    ) -> Result<(), SerdeError> {
+        let Some(schema) = member else {
+            return Ok(());
+        };
+        match schema.member_index() {
+            Some(0) => read_field(source, schema, &mut self.truth),
+            Some(1) => read_field(source, schema, &mut self.byte),
+            Some(2) => read_field(source, schema, &mut self.short),
+            Some(3) => read_field(source, schema, &mut self.long),
+            Some(4) => read_field(source, schema, &mut self.bytes),
+            _ => Ok(()),
+        }
+    }
+}
+
+// The fields under a schema.
+#[derive(Drop)]
+struct Kinds<'s> {
+    shape: Schema<'s>,
+    fields: &'s Fields,
+}
+
+impl<'s> SerializableStruct for Kinds<'s> {
+    ghost site = { λ kinds. site_of kinds.shape };
+
+    // The test tells what it adds.
+    ghost adds = { λ _ _ _ _ _. Unit {0} };
+
+    fn schema(&self) -> Schema<'_> {
+        self.shape
+    }
+
+    fn serialize_members<S: ShapeSerializer>(&self, sink: &mut S) -> Result<(), SerdeError> {
+        write_field(sink, &self.shape, 0, &self.fields.truth)?;
+        write_field(sink, &self.shape, 1, &self.fields.byte)?;
+        write_field(sink, &self.shape, 2, &self.fields.short)?;
+        write_field(sink, &self.shape, 3, &self.fields.long)?;
+        write_field(sink, &self.shape, 4, &self.fields.bytes)
+    }
+}
+
+// Reads the structure that is due.
+fn read_fields<D: ShapeDeserializer>(
+    source: &mut D,
+    shape: &Schema<'_>,
+    fields: &mut Fields,
+) -> Result<(), SerdeError> {
+    match shape.shape_type() {
+        ShapeType::Structure => source.read_struct(shape, fields),
+        _ => Err(SerdeError::InvalidInput),
+    }
+}
+
+#[test]
+fn each_kind_is_written_as_it_was_read(rt: HostRuntime) -> Result<(), Fail> {
+    let alloc = rt.alloc();
+    let body =
+        b"{\"truth\":true,\"byte\":-128,\"short\":32767,\"long\":-9223372036854775808,\"bytes\":\"+/8=\"}";
+    let shapes = Shapes::build(alloc, TableText::read(alloc, TABLE)?)?;
+    let shape = shapes.schema(shapes.find("S").ok_or("no such shape")?);
+    let mut fields = Fields {
+        truth: None,
+        byte: None,
+        short: None,
+        long: None,
+        bytes: None,
+    };
+    let codec = JsonCodec::strict(false);
+    let mut reader = codec.create_deserializer(alloc, body);
+    read_fields(&mut reader, &shape, &mut fields)?;
+    assert!(rt; fields.truth == Some(true));
+    assert!(rt; fields.byte == Some(-128));
+    assert!(rt; fields.short == Some(32767));
+    assert!(rt; fields.long == Some(-9223372036854775808));
+    let mut writer = codec.create_serializer(alloc);
+    let kinds = Kinds {
+        shape,
+        fields: &fields,
+    };
+    writer.write_struct(&shape, &kinds)?;
+    assert!(rt; writer.finish()?.as_slice() == body.as_slice());
+    Ok(())
+}
