@@ -16,7 +16,7 @@ use smithy_types::Blob;
 use std::collections::BTreeMap;
 
 /// A value of an attribute.
-#[derive(Drop)]
+#[derive(Debug, Drop)]
 pub enum AttributeValue {
     /// A text.
     S(String),

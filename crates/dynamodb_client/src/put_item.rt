@@ -15,7 +15,7 @@ use smithy_schema::{
 use std::collections::BTreeMap;
 
 /// An item to keep in a table.
-#[derive(Drop)]
+#[derive(Debug, Drop)]
 pub struct PutItemInput {
     /// The member `TableName`.
     pub table_name: Option<String>,

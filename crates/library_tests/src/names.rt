@@ -4,8 +4,11 @@ use cbor_item::ItemError;
 use smithy_cbor::{CborType, DecodeKind, EncodeError};
 use smithy_compare::CompareError;
 use smithy_json::EscapeError;
+use smithy_model::ModelFault;
+use smithy_model_table::WantedFault;
 use smithy_outside::{Failed, LoadFault};
 use smithy_schema::{SerdeError, TableFault};
+use smithy_table_text::TextFault;
 use smithy_transcode::{TranscodeError, Unfit};
 use smithy_types::{BigNumberError, DateTimeFormatError, base64};
 use std::alloc::Global;
@@ -36,6 +39,9 @@ fn want_of_memory_prints_its_name(rt: HostRuntime) {
     assert!(rt; prints(alloc, TranscodeError::NoMemory, name));
     assert!(rt; prints(alloc, CompareError::NoMemory, name));
     assert!(rt; prints(alloc, LoadFault::NoMemory, name));
+    assert!(rt; prints(alloc, ModelFault::NoMemory, name));
+    assert!(rt; prints(alloc, WantedFault::NoMemory, name));
+    assert!(rt; prints(alloc, TextFault::NoMemory, name));
 }
 
 #[test]
@@ -61,8 +67,20 @@ fn what_a_caller_states_prints_its_name(rt: HostRuntime) {
     let alloc = rt.alloc();
     let inexpressible = TranscodeError::Inexpressible(Unfit::Instant);
     assert!(rt; prints(alloc, inexpressible, "Inexpressible"));
+    assert!(rt; prints(alloc, Unfit::Document, "Document"));
+    assert!(rt; prints(alloc, Unfit::Null, "Null"));
+    assert!(rt; prints(alloc, Unfit::Instant, "Instant"));
     assert!(rt; prints(alloc, SerdeError::TypeMismatch, "TypeMismatch"));
     assert!(rt; prints(alloc, Failed, "Failed"));
     assert!(rt; prints(alloc, LoadFault::Failed, "Failed"));
     assert!(rt; prints(alloc, LoadFault::TooLong, "TooLong"));
+    assert!(rt; prints(alloc, ModelFault::BadShape("a#B"), "BadShape"));
+    assert!(rt;
+        prints(
+            alloc,
+            WantedFault::TableRefused(TableFault::TooMany(1)),
+            "TableRefused"
+        )
+    );
+    assert!(rt; prints(alloc, TextFault::Unwritable, "Unwritable"));
 }

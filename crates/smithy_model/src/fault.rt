@@ -1,26 +1,35 @@
 //! Why a text is no model.
 use json::Error as JsonError;
 use std::alloc::{AllocError, AllocFailed};
+use thiserror::Error;
 
-/// Why a text is no model. The text is the id of a shape of the model.
-#[derive(Clone, Copy, Drop)]
+/// Why a text is no model. The text is the id of a shape of the model. `Display` writes the variant's name.
+#[derive(Clone, Copy, Debug, Drop, PartialEq, Eq, Error)]
 pub enum ModelFault<'a> {
     /// The text is no JSON, or nests deeper than 128.
+    #[error("NotJson")]
     NotJson,
     /// An object has a name twice, as where two shapes have one id.
+    #[error("NameTwice")]
     NameTwice,
     /// It is JSON, and neither a Smithy 2.0 model nor a `service-2.json`.
+    #[error("NotAModel")]
     NotAModel,
     /// A shape whose parts aren't as its type asks: no type, an unknown type, a part without a target.
+    #[error("BadShape")]
     BadShape(&'a str),
     /// A target that the model doesn't have.
+    #[error("UnknownTarget")]
     UnknownTarget(&'a str),
     /// A shape that takes in itself as a mixin, or a mixin that the model doesn't have, or whose members of one name have different
     /// targets.
+    #[error("BadMixin")]
     BadMixin(&'a str),
     /// Traits that are applied from outside of the shape (`apply`).
+    #[error("Applied")]
     Applied(&'a str),
     /// An allocation was refused.
+    #[error("NoMemory")]
     NoMemory,
 }
 

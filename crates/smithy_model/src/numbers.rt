@@ -62,7 +62,7 @@ impl<'a> Numbers<'a> {
     {
         let mut numbers = Numbers {
             ids: Vec::with_capacity(alloc, shapes.len())?,
-            places: Vec::new(alloc),
+            places: Vec::with_capacity(alloc, shapes.len())?,
         };
         for shape in shapes {
             numbers.add(shape.id)?;

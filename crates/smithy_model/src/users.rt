@@ -3,6 +3,7 @@ use std::alloc::{AllocError, Global};
 use std::mem;
 
 /// For each shape, by its number, those that use it, and how many of those that it uses aren't known yet.
+/// Its calls promise nothing of what they find: who goes by it proves what came out.
 #[derive(Drop)]
 pub struct Users {
     users: Vec<Vec<usize>>,

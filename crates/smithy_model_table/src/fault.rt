@@ -2,21 +2,28 @@
 use smithy_shapes::TableFault;
 use smithy_table_text::TextFault;
 use std::alloc::{AllocError, AllocFailed};
+use thiserror::Error;
 
-/// Why a part of a model is no table.
-#[derive(Clone, Copy, Drop)]
+/// Why a part of a model is no table. `Display` writes the variant's name.
+#[derive(Clone, Copy, Debug, Drop, PartialEq, Eq, Error)]
 pub enum WantedFault {
     /// The model has no such operation or shape, or several of that name.
+    #[error("NoSuchName")]
     NoSuchName,
     /// No declaration stands for what is wanted: a body that is no structure, a shape that is a scalar or holds only floats.
+    #[error("NoDeclaration")]
     NoDeclaration,
     /// The table is longer than 1 MiB, or the model has more than 65,535 shapes.
+    #[error("TooLong")]
     TooLong,
     /// The table is refused.
+    #[error("TableRefused")]
     TableRefused(TableFault),
     /// The text isn't read as the declarations, as where a name has a blank.
+    #[error("Unwritable")]
     Unwritable,
     /// An allocation was refused.
+    #[error("NoMemory")]
     NoMemory,
 }
 

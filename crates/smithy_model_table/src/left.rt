@@ -1,7 +1,7 @@
 //! What a table leaves out of a model.
 
 /// Why a member is left out.
-#[derive(Clone, Copy)]
+#[derive(Clone, Copy, Debug, PartialEq, Eq)]
 pub enum Reason {
     /// It is a float, or a list, a map or a union of nothing else.
     Float,
@@ -14,7 +14,7 @@ pub enum Reason {
 }
 
 /// A member that is left out.
-#[derive(Clone, Copy, Drop)]
+#[derive(Clone, Copy, Debug, Drop)]
 pub struct Left<'a> {
     /// The id of the shape that has it.
     pub shape: &'a str,

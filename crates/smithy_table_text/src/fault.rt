@@ -1,17 +1,22 @@
 //! Why declarations have no text.
 use smithy_shapes::TableFault;
 use std::alloc::{AllocError, AllocFailed};
+use thiserror::Error;
 
-/// Why declarations have no text that is a table and reads as them.
-#[derive(Clone, Copy, Drop)]
+/// Why declarations have no text that is a table and reads as them. `Display` writes the variant's name.
+#[derive(Clone, Copy, Debug, Drop, PartialEq, Eq, Error)]
 pub enum TextFault {
     /// The text is longer than 1 MiB.
+    #[error("TooLong")]
     TooLong,
     /// It doesn't read as the declarations, as where a name has a blank.
+    #[error("Unwritable")]
     Unwritable,
     /// The table is refused.
+    #[error("Refused")]
     Refused(TableFault),
     /// An allocation was refused.
+    #[error("NoMemory")]
     NoMemory,
 }
 

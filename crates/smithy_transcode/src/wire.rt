@@ -27,14 +27,17 @@ pub enum Wire {
     },
 }
 
-/// What a wire can't express.
-#[derive(Clone, Copy, Debug, PartialEq, Eq)]
+/// What a wire can't express. `Display` writes the variant's name.
+#[derive(Clone, Copy, Debug, PartialEq, Eq, Error)]
 pub enum Unfit {
     /// A document: CBOR and forms have none.
+    #[error("Document")]
     Document,
     /// A null among the elements of a list or the values of a map: no form has one.
+    #[error("Null")]
     Null,
     /// An instant that the wire doesn't hold in the time form of its place.
+    #[error("Instant")]
     Instant,
 }
 

@@ -13,7 +13,7 @@ use smithy_schema::{
 };
 
 /// A role to take on for a while.
-#[derive(Drop)]
+#[derive(Debug, Drop)]
 pub struct AssumeRoleRequest {
     /// The member `RoleArn`.
     pub role_arn: Option<String>,

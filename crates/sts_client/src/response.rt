@@ -15,7 +15,7 @@ use smithy_schema::{
 };
 
 /// Who takes on the role.
-#[derive(Drop)]
+#[derive(Debug, Drop)]
 pub struct AssumedRoleUser {
     /// The member `AssumedRoleId`.
     pub assumed_role_id: Option<String>,

@@ -13,7 +13,7 @@ use smithy_schema::{
 use std::alloc::Global;
 
 /// A key with its value.
-#[derive(Drop)]
+#[derive(Debug, Drop)]
 pub struct Tag {
     /// The member `Key`.
     pub key: Option<String>,
