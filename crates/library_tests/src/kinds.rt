@@ -1,4 +1,4 @@
-//! A structure with a field of each small kind of scalar, read and written as docs/TYPED_CLIENTS.md shows it.
+//! A structure with a field of each small kind of scalar, read by `read_field` and written by `write_field`.
 ghost use Rattle.smithy_shapes.specs.Site.{site_of};
 
 use smithy_json_codec::JsonCodec;
