@@ -2,7 +2,7 @@
 use smithy_types::Blob;
 
 /// A text, by where its bytes stand in an input.
-#[derive(Drop)]
+#[derive(Debug, Drop)]
 pub enum TextSpan {
     /// They begin at this place, and are so many.
     Placed(usize, usize),
@@ -11,7 +11,7 @@ pub enum TextSpan {
 }
 
 /// Bytes, by where they stand in an input.
-#[derive(Drop)]
+#[derive(Debug, Drop)]
 pub enum BytesSpan {
     /// They begin at this place, and are so many.
     Placed(usize, usize),

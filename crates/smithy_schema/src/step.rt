@@ -6,7 +6,7 @@ ghost use Rattle.smithy_schema.specs.Consuming.{site_in};
 use smithy_shapes::Schema;
 
 /// Where a structure or a union goes on: to a member that the table knows, to another entry, or to its end.
-#[derive(Clone, Copy)]
+#[derive(Clone, Copy, Debug)]
 pub enum Step<'s> {
     /// The value of this member is due.
     Member(Schema<'s>),

@@ -7,7 +7,7 @@ use smithy_declarations::Place;
 use smithy_declarations::names::{Named, order_of, position_of};
 use std::alloc::{AllocError, Global};
 
-#[derive(Drop)]
+#[derive(Debug, Drop)]
 pub(crate) struct MemberShape {
     pub(crate) name: String,
     pub(crate) json_name: Option<String>,
@@ -17,7 +17,7 @@ pub(crate) struct MemberShape {
 }
 
 /// The members of a structure or a union in their order, with their positions in the order of their names.
-#[derive(Drop)]
+#[derive(Debug, Drop)]
 pub(crate) struct MemberList {
     pub(crate) items: Vec<MemberShape>,
     pub(crate) by_name: Vec<usize>,

@@ -6,6 +6,7 @@ use crate::members::{MemberList, MemberShape};
 use crate::shapes::{ListShape, MapShape, Shape, Shapes};
 use crate::targets::Sought;
 use smithy_declarations::{Place, Scalar, ShapeRef, ShapeType, Target, TimestampFormat};
+use std::fmt;
 
 /// Where a view comes from.
 #[derive(Clone, Copy)]
@@ -311,5 +312,14 @@ impl<'a> Schema<'a> {
             origin: self.origin,
             is_nameless: true,
         }
+    }
+}
+
+impl fmt::Debug for Schema<'_> {
+    fn fmt<W: fmt::Write>(&self, f: &mut fmt::Formatter<W>) -> fmt::Result {
+        f.debug_struct("Schema")
+            .field("shape_type", &self.shape_type())
+            .field("member_name", &self.member_name())
+            .finish_non_exhaustive()
     }
 }

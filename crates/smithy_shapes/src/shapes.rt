@@ -5,14 +5,14 @@ use smithy_declarations::names::{Named, position_of};
 use smithy_declarations::{Place, ShapeRef, Target};
 use std::marker::Model;
 
-#[derive(Drop)]
+#[derive(Debug, Drop)]
 pub(crate) struct ListShape {
     pub(crate) place: Place,
     pub(crate) sparse: bool,
     pub(crate) xml_name: Option<String>,
 }
 
-#[derive(Drop)]
+#[derive(Debug, Drop)]
 pub(crate) struct MapShape {
     pub(crate) place: Place,
     pub(crate) sparse: bool,
@@ -20,7 +20,7 @@ pub(crate) struct MapShape {
     pub(crate) value_name: Option<String>,
 }
 
-#[derive(Drop)]
+#[derive(Debug, Drop)]
 pub(crate) enum Shape {
     Structure(MemberList),
     Union(MemberList),
@@ -28,7 +28,7 @@ pub(crate) enum Shape {
     Map(MapShape),
 }
 
-#[derive(Drop)]
+#[derive(Debug, Drop)]
 pub(crate) struct Declaration {
     pub(crate) name: String,
     pub(crate) shape: Shape,
@@ -54,7 +54,7 @@ impl Named for DeclaredNames<'_> {
 }
 
 /// A table of shapes that was accepted.
-#[derive(Drop)]
+#[derive(Debug, Drop)]
 pub struct Shapes {
     pub(crate) declarations: Vec<Declaration>,
     pub(crate) by_name: Vec<usize>,

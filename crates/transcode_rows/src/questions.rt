@@ -21,11 +21,12 @@ fn is_of_name(word: &str) -> bool {
     )
 }
 
-// Whether a word asks what a place tells beside names: its kind, its time form, its members and its marks.
+// Whether a word asks what a place tells beside names: its kind, how it prints, its time form, its members and its marks.
 fn is_of_kind(word: &str) -> bool {
     matches!(
         word,
         "shape_type"
+            | "debug"
             | "timestamp_format"
             | "members"
             | "xml_flattened"
@@ -105,6 +106,7 @@ fn members(alloc: Global, place: &Schema<'_>) -> Result<String, AllocError> {
 fn of_kind(alloc: Global, place: &Schema<'_>, word: &str) -> Result<String, AllocError> {
     match word {
         "shape_type" => format!(in alloc; "{:?}", place.shape_type()),
+        "debug" => format!(in alloc; "{place:?}"),
         "members" => members(alloc, place),
         "timestamp_format" => match place.timestamp_format() {
             Some(form) => format!(in alloc; "{form:?}"),
