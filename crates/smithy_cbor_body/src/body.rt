@@ -1,9 +1,11 @@
 //! Writing a body as a schema directs, without a prefix of its structures.
-ghost use Rattle.std.specs.Prelude.{◌⊎◌, ◌≡◌, ◌++◌, Ok, Err, false, OnOk, OnErr};
+ghost use Rattle.std.specs.Prelude.{◌⊎◌, ◌≡◌, ◌++◌, Ok, Err, false, OnOk, OnErr, IsErrOf};
 ghost use Rattle.smithy_schema.specs.declared.error.SerdeError.TheVariants.{NoMemory, TooWide};
 ghost use Rattle.smithy_cbor.specs.declared.error.EncodeError.TheVariants as encoding;
 ghost use Rattle.smithy_shapes.specs.Site.{site_of};
-ghost use Rattle.smithy_schema.specs.Writing.{Makes, after_value, after_text};
+ghost use Rattle.smithy_schema.specs.Writing.{Makes, WritesEvent, after_value, after_text, document_of};
+ghost use Rattle.smithy_types.specs.Document.{whole_document};
+ghost use Rattle.smithy_types.specs.DocumentView.{document_view};
 ghost use Rattle.smithy_cbor.specs.Written.{text_bytes, big_integer_bytes};
 ghost use Rattle.smithy_cbor_body.specs.Canonical.{key_bytes};
 ghost use Rattle.smithy_cbor_body.specs.Codec.{held_settings};
@@ -291,11 +293,10 @@ impl ShapeSerializer for CborBody {
     }
 
     // CBOR has no documents. It takes no memory.
-    fn write_document(
-        &mut self,
-        _schema: &Schema<'_>,
-        _value: &Document,
-    ) -> Result<(), SerdeError> {
+    fn write_document(&mut self, _schema: &Schema<'_>, _value: &Document) -> Result<(), SerdeError>
+        ensures writes { WritesEvent body_after (document_of (site_of _schema.now) (whole_document (document_view _value.now))) (body_of self.old) (body_has_failed self.old) (body_of self.new) (body_has_failed self.new) result }
+        ensures memory { IsErrOf result NoMemory → ⊥ }
+    {
         self.containers.begin()?;
         if let Some(Container::MapAtKey) = self.containers.innermost() {
             return Err(SerdeError::Unwritable);

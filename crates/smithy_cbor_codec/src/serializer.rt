@@ -1,8 +1,10 @@
 //! Writing a body as a schema directs, with a prefix of its structures.
 ghost use Rattle.std.specs.Prelude.{◌≡◌, ◌↔◌, Ok, Err, true, false, OnOk, IfErr, IsErr, IsErrOf};
-ghost use Rattle.smithy_schema.specs.declared.error.SerdeError.TheVariants.{Failed};
+ghost use Rattle.smithy_schema.specs.declared.error.SerdeError.TheVariants.{Failed, NoMemory};
 ghost use Rattle.smithy_schema.specs.Errors.{IsFault};
-ghost use Rattle.smithy_schema.specs.Writing.{begin_structure};
+ghost use Rattle.smithy_schema.specs.Writing.{WritesEvent, begin_structure, document_of};
+ghost use Rattle.smithy_types.specs.Document.{whole_document};
+ghost use Rattle.smithy_types.specs.DocumentView.{document_view};
 ghost use Rattle.smithy_shapes.specs.Site.{site_of};
 ghost use Rattle.smithy_cbor_body.specs.Prefixes.{CborState, fresh_state, cbor_after};
 ghost use Rattle.smithy_cbor_body.specs.Codec.{held_settings};
@@ -165,7 +167,11 @@ impl<P: StructPrefix + Copy> ShapeSerializer for CborSerializer<P> {
         self.body.write_timestamp(schema, value)
     }
 
-    fn write_document(&mut self, schema: &Schema<'_>, value: &Document) -> Result<(), SerdeError> {
+    // CBOR has no documents. It takes no memory.
+    fn write_document(&mut self, schema: &Schema<'_>, value: &Document) -> Result<(), SerdeError>
+        ensures writes { WritesEvent cbor_after (document_of (site_of schema.now) (whole_document (document_view value.now))) (record { body = body_in self.old; prefix = P.adds (prefix_in self.old) }) (has_failed self.old) (record { body = body_in self.new; prefix = P.adds (prefix_in self.new) }) (has_failed self.new) result }
+        ensures memory { IsErrOf result NoMemory → ⊥ }
+    {
         self.body.write_document(schema, value)
     }
 }

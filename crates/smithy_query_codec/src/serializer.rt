@@ -1,9 +1,11 @@
 //! Writing a form as a schema directs.
 ghost use Rattle.std.specs.Prelude.{◌≡◌, ◌↔◌, ◌++◌, ◌∷◌, [], take, length, true, false, OnOk, IfOk, IfErr, IsErr, IsErrOf, Ok, Err, ◌&&◌};
-ghost use Rattle.smithy_schema.specs.declared.error.SerdeError.TheVariants.{Failed, Unwritable};
+ghost use Rattle.smithy_schema.specs.declared.error.SerdeError.TheVariants.{Failed, NoMemory, Unwritable};
 ghost use Rattle.smithy_schema.specs.Errors.{IsFault};
 ghost use Rattle.smithy_shapes.specs.Site.{site_of};
-ghost use Rattle.smithy_schema.specs.Writing.{after_value, after_text};
+ghost use Rattle.smithy_schema.specs.Writing.{WritesEvent, after_value, after_text, document_of};
+ghost use Rattle.smithy_types.specs.Document.{whole_document};
+ghost use Rattle.smithy_types.specs.DocumentView.{document_view};
 ghost use Rattle.smithy_query.specs.Form.{pair_text};
 ghost use Rattle.smithy_query_codec.specs.Leaves.{form_at};
 ghost use Rattle.smithy_query_codec.specs.Writing.{QueryState, fresh_state, empty_leaf, child_count, child_prefix, has_room as is_room, is_placed as is_place, is_key_due as is_key_place, wrote, allowed, where_taken, query_after};
@@ -389,7 +391,10 @@ impl ShapeSerializer for QueryShapeSerializer {
     }
 
     // A form has no documents. It takes no memory.
-    fn write_document(&mut self, schema: &Schema<'_>, _value: &Document) -> Result<(), SerdeError> {
+    fn write_document(&mut self, schema: &Schema<'_>, _value: &Document) -> Result<(), SerdeError>
+        ensures writes { WritesEvent query_after (document_of (site_of schema.now) (whole_document (document_view _value.now))) (state_of self.old) (has_failed self.old) (state_of self.new) (has_failed self.new) result }
+        ensures memory { IsErrOf result NoMemory → ⊥ }
+    {
         self.containers.begin()?;
         if !is_placed(&self.containers, schema) {
             return Err(SerdeError::Unwritable);

@@ -67,6 +67,7 @@ opening_refused r site within old new e opens = record {
   invalid = opens.invalid;
   deepest = λ h. opens.deepest (is_error _ e TooDeep h);
   deep = λ h. opens.deep (is_error _ e TooDeep h);
+  memory = λ h. opens.memory (is_error _ e NoMemory h);
   narrow = of_cursor _ old new e opens.conduct opens.narrow;
 }
 

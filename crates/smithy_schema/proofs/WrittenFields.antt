@@ -1,5 +1,5 @@
 -- What is written into an open structure, member by member.
-use Rattle.std.proofs.Common.{◌≡◌, ◌↔◌, ℕ, suc, List, [], ◌∷◌, ◌++◌, map, length, Option, Some, None, Bool, true, false, Result, Ok, Err, OnOk, IfErr, IsErr, IsErrOf, refl, sym, ◌∙◌, ap, subst}
+use Rattle.std.proofs.Common.{◌≡◌, ◌↔◌, ℕ, suc, List, [], ◌∷◌, ◌++◌, map, length, Option, Some, None, Bool, true, false, Result, Ok, Err, OnOk, OnErr, IfErr, IsErr, IsErrOf, refl, sym, ◌∙◌, ap, subst}
 use Rattle.std.proofs.lemmas.List.{append-nil}
 use Rattle.smithy_schema.specs.declared.error.SerdeError.{SerdeError}
 use Rattle.smithy_schema.specs.declared.error.SerdeError.TheVariants.{Failed}
@@ -60,6 +60,10 @@ not_had (Ok done) true broken = let clash = broken.1 refl in cc
 not_had (Ok done) false broken = refl
 not_had (Err e) has broken = tt
 
+pub has_broken : (r : Result (Unit {0}) SerdeError) (has : Bool) → IsErr r ↔ (has ≡ true) → OnErr r (has ≡ true)
+has_broken (Ok done) has broken = tt
+has_broken (Err e) has broken = broken.0 refl
+
 -- ---- inside of an open structure
 
 value_stays : {S : Type 0} (after : Writer S) (open_in : S → List Open) → IsNested after open_in → (site : Site) (v : Value) (s t : S) → IsInside open_structure (open_in s) → run after (events site v) s ≡ Ok t → open_in t ≡ open_in s
@@ -70,14 +74,14 @@ value_stays after open_in nested site v s t (outer, is) written =
 
 -- a value that is written there
 pub value_added : {S : Type 0} (after : Writer S) (open_in : S → List Open) → IsNested after open_in → (site : Site) (v : Value) (s t : S) (has : Bool) (r : Result (Unit {0}) SerdeError) → IsInside open_structure (open_in s)
-    → Runs after (events site v) s (outcome r t) → OnOk r (has ≡ false) → AddsInside after open_in (events site v) s has t r
-value_added after open_in nested site v s t has (Ok done) inside runs sound =
+    → Runs after (events site v) s (outcome r t) → OnOk r (has ≡ false) → OnErr r (has ≡ true) → AddsInside after open_in (events site v) s has t r
+value_added after open_in nested site v s t has (Ok done) inside runs sound broken =
     let stays = value_stays after open_in nested site v s t inside (runs_ok after (events site v) s (Ok t) runs t refl) in
-    record { runs = runs; nests = stays; inside = subst (IsInside open_structure) (sym stays) inside; sound = sound }
-value_added after open_in nested site v s t has (Err e) inside runs sound = record { runs = runs; nests = tt; inside = tt; sound = tt }
+    record { runs = runs; nests = stays; inside = subst (IsInside open_structure) (sym stays) inside; sound = sound; broken = tt }
+value_added after open_in nested site v s t has (Err e) inside runs sound broken = record { runs = runs; nests = tt; inside = tt; sound = tt; broken = broken }
 
 pub nothing_added : {S : Type 0} (after : Writer S) (open_in : S → List Open) (s : S) (has : Bool) → IsInside open_structure (open_in s) → has ≡ false → AddsInside after open_in [] s has s (Ok tt)
-nothing_added after open_in s has inside sound = record { runs = ran refl; nests = refl; inside = inside; sound = sound }
+nothing_added after open_in s has inside sound = record { runs = ran refl; nests = refl; inside = inside; sound = sound; broken = tt }
 
 -- ---- field by field
 
@@ -95,6 +99,7 @@ first_field {after = after} {open_in = open_in} {s = s} {t = t} {u = u} {has = h
   nests = both r rest.nests;
   inside = rest.inside;
   sound = rest.sound;
+  broken = rest.broken;
 }
   where
     both : (r : Result (Unit {0}) SerdeError) → OnOk r (open_in u ≡ open_in t) → OnOk r (open_in u ≡ open_in s)
@@ -110,6 +115,7 @@ field_fails {after = after} {open_in = open_in} {s = s} {t = t} {e = e} site n f
   nests = tt;
   inside = tt;
   sound = tt;
+  broken = first.broken;
 }
 
 -- the last one

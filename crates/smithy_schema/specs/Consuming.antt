@@ -73,6 +73,8 @@ pub record RefusesOpening (r : Reader) (site : Site) (c : Cursor) (e : SerdeErro
   pub invalid : FindsNone e → c.due ≡ true → OpensNot r.wire c site.table site.place
   pub deepest : e ≡ TooDeep → depth c ≡ r.max_depth
   pub deep : e ≡ TooDeep → OpensNot r.wire c site.table site.place → ⊥
+  -- and memory is wanted only for a container that begins here
+  pub memory : e ≡ NoMemory → OpensNot r.wire c site.table site.place → ⊥
   pub narrow : IsOfCursor e
 
 -- Where a value is due and the reader hasn't failed, the call enters the container and goes along its entries; or it is refused

@@ -22,6 +22,8 @@ pub record Opens (r : Reader) (old new : Cursor) (site : Site) (within : Contain
   -- too deep is a container that begins here, exactly at the greatest depth
   pub deepest : IsErrOf result TooDeep → depth old ≡ r.max_depth
   pub deep : IsErrOf result TooDeep → OpensNot r.wire old site.table site.place → ⊥
+  -- and memory is wanted only for a container that begins here
+  pub memory : IsErrOf result NoMemory → OpensNot r.wire old site.table site.place → ⊥
 
 -- What a call says of its answer that goes on in a structure or a union. A value that is still due is skipped first.
 pub record GoesOnInStructure (r : Reader) (old new : Cursor) (site : Site) (result : Result Step SerdeError) : Type 0 where

@@ -46,10 +46,12 @@ abbrev pub variant_events : Site → Value → List Event
 variant_events site (union n v) = events (member_of site n) v
 variant_events site _ = []
 
--- These calls are made one after the other, and any error is that of one of them; after an Ok the serializer hasn't failed.
+-- These calls are made one after the other, and any error is that of one of them. After an Ok the serializer hasn't failed, and
+-- after an error it has.
 pub record WritesAs {S : Type 0} (after : Writer S) (calls : List Event) (old : S) (has_failed : Bool) (new : S) (result : Result (Unit {0}) SerdeError) : Type 0 where
   pub runs : Runs after calls old (outcome result new)
   pub sound : OnOk result (has_failed ≡ false)
+  pub broken : OnErr result (has_failed ≡ true)
 
 -- Where the serializer hadn't failed, these calls of a whole value are made one after the other, and any error is that of one of them.
 pub record WritesWhole {S : Type 0} (after : Writer S) (open_in : S → List Open) (calls : List Event) (old : S) (had_failed : Bool) (new : S) (has_failed : Bool) (result : Result (Unit {0}) SerdeError) : Type 0 where

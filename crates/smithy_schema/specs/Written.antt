@@ -1,5 +1,5 @@
 -- What a written value adds between the calls that begin and end its container.
-use Rattle.std.specs.Prelude.{◌≡◌, ◌↔◌, Bool, true, false, Result, Ok, Err, OnOk, IsErr, ℤ, List, ◌∷◌, map}
+use Rattle.std.specs.Prelude.{◌≡◌, ◌↔◌, Bool, true, false, Result, Ok, Err, OnOk, OnErr, IsErr, ℤ, List, ◌∷◌, map}
 use Rattle.smithy_schema.specs.declared.error.SerdeError.{SerdeError}
 use Rattle.smithy_schema.specs.declared.error.SerdeError.TheVariants.{Failed}
 use Rattle.smithy_declarations.specs.Value.{Value, scalar_value, whole as whole_number, list, values_of}
@@ -50,9 +50,11 @@ IsInside o os = (outer : List Open) × (os ≡ o ∷ outer)
 abbrev pub list_of_wholes : List ℤ → Value
 list_of_wholes ns = list (values_of (map (λ n. scalar_value (whole_number n)) ns))
 
--- What is written into an open structure: these calls, which leave it open as it was.
+-- What is written into an open structure: these calls, which leave it open as it was. After an Ok the serializer hasn't failed, and
+-- after an error it has.
 pub record AddsInside {S : Type 0} (after : Writer S) (open_in : S → List Open) (calls : List Event) (old : S) (has_failed : Bool) (new : S) (result : Result (Unit {0}) SerdeError) : Type 0 where
   pub runs : Runs after calls old (outcome result new)
   pub nests : OnOk result (open_in new ≡ open_in old)
   pub inside : OnOk result (IsInside open_structure (open_in new))
   pub sound : OnOk result (has_failed ≡ false)
+  pub broken : OnErr result (has_failed ≡ true)

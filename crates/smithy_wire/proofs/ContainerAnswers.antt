@@ -19,10 +19,10 @@ module _ (w u : Relations) (tells_without_limits : Type 0) (max : ℕ) (site : S
   -- ---- a container that is due
 
   module _ (within : ContainerKind) (old : Cursor) (sound : old.failed ≡ false) (due : old.due ≡ true) (inside : old.at ≤ length old.input) where
-    refuses : (new : Cursor) (e : SerdeError) → new ≡ failed_at old → (e ≡ Failed → ⊥) → IsOfReader e → RefusesNoScalar {A = Unit {0}} (Err e) → (IsErrOf {T = Unit {0}} (Err e) TooDeep → ⊥)
+    refuses : (new : Cursor) (e : SerdeError) → new ≡ failed_at old → (e ≡ Failed → ⊥) → IsOfReader e → RefusesNoScalar {A = Unit {0}} (Err e) → (IsErrOf {T = Unit {0}} (Err e) TooDeep → ⊥) → (IsErrOf {T = Unit {0}} (Err e) NoMemory → ⊥)
         → TellsType (w.mismatches old.input site.table site.place old.at) e → OpensNot w old site.table site.place → OpensNot u old site.table site.place
         → Opens (reader w u tells_without_limits max) old new site within (Err e)
-    refuses new e stays unfailed reading narrow shallow tells none none_lifted = record {
+    refuses new e stays unfailed reading narrow shallow ample tells none none_lifted = record {
       conduct = conducts old new e stays inside sound unfailed reading;
       narrow = narrow;
       undue = λ undue. absurd (let both : true ≡ false = sym due ∙ undue in cc);
@@ -33,28 +33,15 @@ module _ (w u : Relations) (tells_without_limits : Type 0) (max : ℕ) (site : S
       invalid = λ fault due. none;
       deepest = λ deep. absurd (shallow deep);
       deep = λ deep. absurd (shallow deep);
+      memory = λ short. absurd (ample short);
     }
 
     -- none opens there
     pub opens_none : (new : Cursor) (e : SerdeError) → new ≡ failed_at old → FindsNone e → TellsType (w.mismatches old.input site.table site.place old.at) e
         → OpensNot w old site.table site.place → OpensNot u old site.table site.place → Opens (reader w u tells_without_limits max) old new site within (Err e)
-    opens_none new InvalidInput stays none = refuses new InvalidInput stays (λ h. cc) tt ((λ h. cc), λ h. cc) (λ h. cc)
-    opens_none new TypeMismatch stays none = refuses new TypeMismatch stays (λ h. cc) tt ((λ h. cc), λ h. cc) (λ h. cc)
+    opens_none new InvalidInput stays none = refuses new InvalidInput stays (λ h. cc) tt ((λ h. cc), λ h. cc) (λ h. cc) (λ h. cc)
+    opens_none new TypeMismatch stays none = refuses new TypeMismatch stays (λ h. cc) tt ((λ h. cc), λ h. cc) (λ h. cc) (λ h. cc)
     opens_none new _ stays none = absurd none
-
-    no_memory : (new : Cursor) → new ≡ failed_at old → Opens (reader w u tells_without_limits max) old new site within (Err NoMemory)
-    no_memory new stays = record {
-      conduct = conducts old new NoMemory stays inside sound (λ h. cc) tt;
-      narrow = ((λ h. cc), λ h. cc);
-      undue = λ undue. tt;
-      told = λ due. tt;
-      ok = tt;
-      refused = λ fault. absurd fault;
-      none_without_limits = λ strict fault. absurd fault;
-      invalid = λ fault. absurd fault;
-      deepest = λ deep. cc;
-      deep = λ deep. cc;
-    }
 
     module _ (b : ℕ) (frame : Frame) (allows : w.allows (depth old) ↔ (nat_le (suc (depth old)) max ≡ true)) (opens : w.opens old.input site.table site.place (depth old) old.at b frame.mark) where
       too_deep : (new : Cursor) → new ≡ failed_at old → depth old ≡ max → Opens (reader w u tells_without_limits max) old new site within (Err TooDeep)
@@ -69,6 +56,22 @@ module _ (w u : Relations) (tells_without_limits : Type 0) (max : ℕ) (site : S
         invalid = λ fault. absurd fault;
         deepest = λ deep. deepest;
         deep = λ deep none. none b frame.mark opens;
+        memory = λ short. cc;
+      }
+
+      no_memory : (new : Cursor) → new ≡ failed_at old → Opens (reader w u tells_without_limits max) old new site within (Err NoMemory)
+      no_memory new stays = record {
+        conduct = conducts old new NoMemory stays inside sound (λ h. cc) tt;
+        narrow = ((λ h. cc), λ h. cc);
+        undue = λ undue. tt;
+        told = λ due. tt;
+        ok = tt;
+        refused = λ fault. absurd fault;
+        none_without_limits = λ strict fault. absurd fault;
+        invalid = λ fault. absurd fault;
+        deepest = λ deep. cc;
+        deep = λ deep. cc;
+        memory = λ short none. none b frame.mark opens;
       }
 
       entered : IsLawful w → b ≤ length old.input → frame.within ≡ within → depth old < max → Opens (reader w u tells_without_limits max) old (entered_into old b frame) site within (Ok tt)
@@ -97,6 +100,7 @@ module _ (w u : Relations) (tells_without_limits : Type 0) (max : ℕ) (site : S
             invalid = λ fault. absurd fault;
             deepest = λ deep. cc;
             deep = λ deep. cc;
+            memory = λ short. cc;
           }
 
       -- one opens there, and is entered where fewer are open than may be

@@ -4,7 +4,7 @@ use Rattle.std.proofs.lemmas.List.{drop_all}
 use Rattle.smithy_shapes.specs.Site.{site_of, member_of, element_of, key_of, value_of}
 use Rattle.smithy_declarations.specs.Value.{nesting, text, bytes, boolean, list, map, values_of, map_entry}
 use Rattle.smithy_schema.specs.Writing.{events, scalar_of, end_structure, end_list, end_map}
-use Rattle.smithy_schema.proofs.WrittenFields.{called, not_had}
+use Rattle.smithy_schema.proofs.WrittenFields.{called, not_had, has_broken}
 use Rattle.smithy_schema.proofs.WrittenLemmas.{not_failed}
 use Rattle.smithy_schema.proofs.WrittenLists.{next_element, element_nests}
 use Rattle.dynamodb_client.specs.Attributes.{attribute_value, attribute_values, attribute_entries}
@@ -22,7 +22,7 @@ write_attribute_value-returns-in_err-begin_struct g t c =
     let is = is_union c.args.value.now in
     let p = err_from_is_err_and c.from_residual.result c.from_residual.ensures.1 in
     let told = c.in_err-begin_struct.ensures in
-    record { writes = rw (p.1, p.2, is.2) (record { runs = first_fails s.after _ _ first _ _ c.requires.sound told.failed told.refused; sound = tt }) }
+    record { writes = rw (p.1, p.2, is.2) (record { runs = first_fails s.after _ _ first _ _ c.requires.sound told.failed told.refused; sound = tt; broken = told.broken.0 refl }) }
 
 pub write_attribute_value-write_variant-requires : goal.write_attribute_value-write_variant-requires
 write_attribute_value-write_variant-requires g t c κs within =
@@ -36,7 +36,7 @@ write_attribute_value-returns-in_err-write_variant g t c =
     let is = is_union c.args.value.now in
     let p = err_from_is_err_and c.from_residual-in_err-write_variant.result c.from_residual-in_err-write_variant.ensures.1 in
     let runs = rw is.2 at c.in_err-write_variant.ensures.writes.runs in
-    record { writes = rw (p.1, p.2, is.2) (record { runs = union_fails s.after site is.0 is.1 first _ _ c.in_ok-begin_struct.ensures.ok runs; sound = tt }) }
+    record { writes = rw (p.1, p.2, is.2) (record { runs = union_fails s.after site is.0 is.1 first _ _ c.in_ok-begin_struct.ensures.ok runs; sound = tt; broken = c.in_err-write_variant.ensures.writes.broken }) }
 
 pub write_attribute_value-returns : goal.write_attribute_value-returns
 write_attribute_value-returns g t c =
@@ -51,6 +51,7 @@ write_attribute_value-returns g t c =
         runs = union_ends s.after site is.0 is.1 first _ _ _ c.in_ok-begin_struct.ensures.ok runs
             (called s.after end_structure _ _ _ c.end_struct.result c.in_ok-write_variant.ensures.writes.sound told.failed told.ok told.refused);
         sound = not_had c.end_struct.result _ told.broken;
+        broken = has_broken c.end_struct.result _ told.broken;
       });
     }
 
@@ -64,6 +65,7 @@ write_variant-returns-in-S g t c =
       writes = rw (c.in-S.is, view-S c.in-S.text) (record {
         runs = called s.after (scalar_of (member_of site 0) (text (string_bytes c.in-S.text))) first _ _ c.write_string.result c.requires.sound told.failed (rw (c.member_under.ensures, c.as_str.ensures.value) at told.ok) (rw (c.member_under.ensures, c.as_str.ensures.value) at told.refused);
         sound = not_had c.write_string.result _ told.broken;
+        broken = has_broken c.write_string.result _ told.broken;
       });
     }
 
@@ -77,6 +79,7 @@ write_variant-returns-in-N g t c =
       writes = rw (c.in-N.is, view-N c.in-N.text) (record {
         runs = called s.after (scalar_of (member_of site 1) (text (string_bytes c.in-N.text))) first _ _ c.write_string-in-N.result c.requires.sound told.failed (rw (c.member_under-in-N.ensures, c.as_str-in-N.ensures.value) at told.ok) (rw (c.member_under-in-N.ensures, c.as_str-in-N.ensures.value) at told.refused);
         sound = not_had c.write_string-in-N.result _ told.broken;
+        broken = has_broken c.write_string-in-N.result _ told.broken;
       });
     }
 
@@ -90,6 +93,7 @@ write_variant-returns-in-B g t c =
       writes = rw (c.in-B.is, view-B c.in-B.bytes) (record {
         runs = called s.after (scalar_of (member_of site 2) (bytes c.in-B.bytes)) first _ _ c.write_blob.result c.requires.sound told.failed (rw c.member_under-in-B.ensures at told.ok) (rw c.member_under-in-B.ensures at told.refused);
         sound = not_had c.write_blob.result _ told.broken;
+        broken = has_broken c.write_blob.result _ told.broken;
       });
     }
 
@@ -103,6 +107,7 @@ write_variant-returns-in-Bool g t c =
       writes = rw (c.in-Bool.is, view-Bool c.in-Bool.truth) (record {
         runs = called s.after (scalar_of (member_of site 3) (boolean c.in-Bool.truth)) first _ _ c.write_boolean.result c.requires.sound told.failed (rw c.member_under-in-Bool.ensures at told.ok) (rw c.member_under-in-Bool.ensures at told.refused);
         sound = not_had c.write_boolean.result _ told.broken;
+        broken = has_broken c.write_boolean.result _ told.broken;
       });
     }
 
@@ -116,6 +121,7 @@ write_variant-returns-in-Null g t c =
       writes = rw (c.in-Null.is, view-Null c.in-Null.truth) (record {
         runs = called s.after (scalar_of (member_of site 4) (boolean c.in-Null.truth)) first _ _ c.write_boolean-in-Null.result c.requires.sound told.failed (rw c.member_under-in-Null.ensures at told.ok) (rw c.member_under-in-Null.ensures at told.refused);
         sound = not_had c.write_boolean-in-Null.result _ told.broken;
+        broken = has_broken c.write_boolean-in-Null.result _ told.broken;
       });
     }
 
@@ -161,7 +167,7 @@ write_attributes-returns-in_err-begin_map g t c =
     let told = c.len.ensures.len ∙ counts all in
     let p = err_from_is_err_and c.from_residual.result c.from_residual.ensures.1 in
     let call = c.in_err-begin_map.ensures in
-    record { writes = rw (p.1, p.2) (record { runs = map_fails s.after site (attribute_entries all) _ first _ _ told c.requires.sound call.failed call.refused; sound = tt }) }
+    record { writes = rw (p.1, p.2) (record { runs = map_fails s.after site (attribute_entries all) _ first _ _ told c.requires.sound call.failed call.refused; sound = tt; broken = call.broken.0 refl }) }
 
 pub write_attributes-loop-key-init : goal.write_attributes-loop-key-init
 write_attributes-loop-key-init g t c =
@@ -208,6 +214,7 @@ write_attributes-returns-in_err-write_string g t c =
       writes = rw (p.1, p.2) (record {
         runs = c.loop-key.invariant.rest _ (key_fails s.after (key_of site) (value_of site) name value left rest _ _ _ next c.loop-key.invariant.sound told.failed (rw (c.keys_under-key_schema.ensures, c.as_str.ensures.value) at told.refused));
         sound = tt;
+        broken = told.broken.0 refl;
       });
     }
 
@@ -229,6 +236,7 @@ write_attributes-returns-in_err-write_attribute_value g t c =
       writes = rw (p.1, p.2) (record {
         runs = c.loop-key.invariant.rest _ (value_fails s.after (key_of site) (value_of site) name value left rest _ _ _ next key runs);
         sound = tt;
+        broken = c.in_err-write_attribute_value.ensures.writes.broken;
       });
     }
 
@@ -262,6 +270,7 @@ write_attributes-returns g t c =
       writes = record {
         runs = (rw over at c.loop-key.invariant.rest) _ (called s.after end_map _ _ _ c.end_map.result c.loop-key.invariant.sound told.failed told.ok told.refused);
         sound = not_had c.end_map.result _ told.broken;
+        broken = has_broken c.end_map.result _ told.broken;
       };
     }
 
@@ -273,7 +282,7 @@ write_attribute_list-returns-in_err-begin_list g t c =
     let all = c.args.values.now in
     let p = err_from_is_err_and c.from_residual.result c.from_residual.ensures.1 in
     let call = c.in_err-begin_list.ensures in
-    record { writes = rw (p.1, p.2) (record { runs = list_fails s.after attribute_value site all (length all) first _ _ refl c.requires.sound call.failed call.refused; sound = tt }) }
+    record { writes = rw (p.1, p.2) (record { runs = list_fails s.after attribute_value site all (length all) first _ _ refl c.requires.sound call.failed call.refused; sound = tt; broken = call.broken.0 refl }) }
 
 pub write_attribute_list-loop-value-init : goal.write_attribute_list-loop-value-init
 write_attribute_list-loop-value-init g t c =
@@ -317,6 +326,7 @@ write_attribute_list-returns-in_err-write_attribute_value g t c =
       writes = rw (p.1, p.2) (record {
         runs = c.loop-value.invariant.rest _ (element_fails s.after inner value vs ws _ _ next runs);
         sound = tt;
+        broken = c.in_err-write_attribute_value.ensures.writes.broken;
       });
     }
 
@@ -349,5 +359,6 @@ write_attribute_list-returns g t c =
       writes = record {
         runs = (rw over at c.loop-value.invariant.rest) _ (called s.after end_list _ _ _ c.end_list.result c.loop-value.invariant.sound told.failed told.ok told.refused);
         sound = not_had c.end_list.result _ told.broken;
+        broken = has_broken c.end_list.result _ told.broken;
       };
     }

@@ -37,5 +37,5 @@ returns g c =
     record {
       adds = rw c.in-Some.is (first_field site 0 (option_map text_value v.table_name) (Some item ∷ []) first
           (last_field site 1 (Some item)
-          (value_added s.after s.open_in g.met.S.ShapeSerializer.nested (member_of site 1) item (s.state c.write_field.new.sink) (s.state call.new.sink) (s.failed call.new.sink) call.result first.inside writes.runs writes.sound)));
+          (value_added s.after s.open_in g.met.S.ShapeSerializer.nested (member_of site 1) item (s.state c.write_field.new.sink) (s.state call.new.sink) (s.failed call.new.sink) call.result first.inside writes.runs writes.sound writes.broken)));
     }

@@ -1,6 +1,6 @@
 use Rattle.smithy_shapes.specs.Site.{site_of}
 use Rattle.smithy_declarations.specs.Value.{scalar_value, instant}
-use Rattle.smithy_schema.proofs.WrittenFields.{value_added, called, not_had}
+use Rattle.smithy_schema.proofs.WrittenFields.{value_added, called, not_had, has_broken}
 use Rattle.smithy_schema.proofs.fields.DateTimeWriteMember.write_member.Goals as goal
 
 pub returns : goal.returns
@@ -10,5 +10,6 @@ returns g c =
     record {
       adds = value_added s.after s.open_in g.met.S.ShapeSerializer.nested (site_of c.args.member.now) (scalar_value (instant c.args.self.now)) (s.state c.args.sink.now) _ _ c.write_timestamp.result c.requires.inside
           (called s.after _ (s.state c.args.sink.now) _ _ c.write_timestamp.result c.requires.sound told.failed told.ok told.refused)
-          (not_had c.write_timestamp.result _ told.broken);
+          (not_had c.write_timestamp.result _ told.broken)
+          (has_broken c.write_timestamp.result _ told.broken);
     }

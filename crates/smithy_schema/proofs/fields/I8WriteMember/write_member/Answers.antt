@@ -2,7 +2,7 @@ use Rattle.std.proofs.Common.{◌≡◌, rules, to_z, of_z}
 use Rattle.std.specs.Int.{w8}
 use Rattle.smithy_shapes.specs.Site.{site_of}
 use Rattle.smithy_declarations.specs.Value.{scalar_value, whole}
-use Rattle.smithy_schema.proofs.WrittenFields.{value_added, called, not_had}
+use Rattle.smithy_schema.proofs.WrittenFields.{value_added, called, not_had, has_broken}
 use Rattle.smithy_schema.proofs.fields.I8WriteMember.write_member.Goals as goal
 
 pub returns : goal.returns
@@ -13,5 +13,6 @@ returns g c =
     record {
       adds = value_added s.after s.open_in g.met.S.ShapeSerializer.nested (site_of c.args.member.now) (scalar_value (whole c.args.self.now)) (s.state c.args.sink.now) _ _ c.write_byte.result c.requires.inside
           (called s.after _ (s.state c.args.sink.now) _ _ c.write_byte.result c.requires.sound told.failed (rw number at told.ok) (rw number at told.refused))
-          (not_had c.write_byte.result _ told.broken);
+          (not_had c.write_byte.result _ told.broken)
+          (has_broken c.write_byte.result _ told.broken);
     }

@@ -1,7 +1,7 @@
 use Rattle.std.proofs.Common.{string_bytes}
 use Rattle.smithy_shapes.specs.Site.{site_of}
 use Rattle.smithy_declarations.specs.Value.{scalar_value, text}
-use Rattle.smithy_schema.proofs.WrittenFields.{value_added, called, not_had}
+use Rattle.smithy_schema.proofs.WrittenFields.{value_added, called, not_had, has_broken}
 use Rattle.smithy_schema.proofs.fields.StringWriteMember.write_member.Goals as goal
 
 pub returns : goal.returns
@@ -11,5 +11,6 @@ returns g c =
     record {
       adds = value_added s.after s.open_in g.met.S.ShapeSerializer.nested (site_of c.args.member.now) (scalar_value (text (string_bytes c.args.self.now))) (s.state c.args.sink.now) _ _ c.write_string.result c.requires.inside
           (called s.after _ (s.state c.args.sink.now) _ _ c.write_string.result c.requires.sound told.failed (rw c.as_str.ensures.value at told.ok) (rw c.as_str.ensures.value at told.refused))
-          (not_had c.write_string.result _ told.broken);
+          (not_had c.write_string.result _ told.broken)
+          (has_broken c.write_string.result _ told.broken);
     }
