@@ -11,6 +11,7 @@ pub mod Reading
 pub mod Faults
 -- what the types stand for
 pub mod Views
+pub mod Users
 -- words for private functions
 pub mod Mixing
 pub mod Placing
