@@ -220,6 +220,10 @@ fn read_list<P: Trees, D: PieceDeserializer<Text = P::Text, Bytes = P::Bytes>>(
         if sparse && source.is_null() {
             source.read_null()?;
             trees.push_element(&mut elements, P::null())?;
+        } else if let ShapeType::Long = element.shape_type() {
+            // The elements of long lists are mostly numbers, and one is read here without the answer of a call for any kind.
+            let number = source.read_long(&element)?;
+            trees.push_element(&mut elements, P::whole(number))?;
         } else {
             let item = read_part::<P, D>(alloc, source, trees, &element)?;
             trees.push_element(&mut elements, item)?;

@@ -259,11 +259,20 @@ read_list-returns-in_err-push_element = lists.read_list-returns-in_err-push_elem
 pub read_list-loop-elements-preserved-then-is_null : goal.read_list-loop-elements-preserved-then-is_null
 read_list-loop-elements-preserved-then-is_null = lists.read_list-loop-elements-preserved-then-is_null
 
-pub read_list-returns-in_err-item : goal.read_list-returns-in_err-item
-read_list-returns-in_err-item = lists.read_list-returns-in_err-item
+pub read_list-returns-in_err-number : goal.read_list-returns-in_err-number
+read_list-returns-in_err-number = lists.read_list-returns-in_err-number
 
 pub read_list-returns-in_err-push_element-2 : goal.read_list-returns-in_err-push_element-2
 read_list-returns-in_err-push_element-2 = lists.read_list-returns-in_err-push_element-2
+
+pub read_list-loop-elements-preserved-in-Continue-branch-6 : goal.read_list-loop-elements-preserved-in-Continue-branch-6
+read_list-loop-elements-preserved-in-Continue-branch-6 = lists.read_list-loop-elements-preserved-in-Continue-branch-6
+
+pub read_list-returns-in_err-item : goal.read_list-returns-in_err-item
+read_list-returns-in_err-item = lists.read_list-returns-in_err-item
+
+pub read_list-returns-in_err-push_element-3 : goal.read_list-returns-in_err-push_element-3
+read_list-returns-in_err-push_element-3 = lists.read_list-returns-in_err-push_element-3
 
 pub read_list-loop-elements-preserved : goal.read_list-loop-elements-preserved
 read_list-loop-elements-preserved = lists.read_list-loop-elements-preserved
@@ -273,6 +282,9 @@ read_list-returns = lists.read_list-returns
 
 pub read_list-loop-elements-smaller-then-is_null : goal.read_list-loop-elements-smaller-then-is_null
 read_list-loop-elements-smaller-then-is_null = lists.read_list-loop-elements-smaller-then-is_null
+
+pub read_list-loop-elements-smaller-in-Continue-branch-6 : goal.read_list-loop-elements-smaller-in-Continue-branch-6
+read_list-loop-elements-smaller-in-Continue-branch-6 = lists.read_list-loop-elements-smaller-in-Continue-branch-6
 
 pub read_list-loop-elements-smaller : goal.read_list-loop-elements-smaller
 read_list-loop-elements-smaller = lists.read_list-loop-elements-smaller
@@ -289,17 +301,26 @@ read_list-push_element-requires-clause-begun = lists.read_list-push_element-requ
 pub read_list-push_element-requires-clause-stands : goal.read_list-push_element-requires-clause-stands
 read_list-push_element-requires-clause-stands = lists.read_list-push_element-requires-clause-stands
 
+pub read_list-push_element-requires-in-Long-clause-sound : goal.read_list-push_element-requires-in-Long-clause-sound
+read_list-push_element-requires-in-Long-clause-sound = lists.read_list-push_element-requires-in-Long-clause-sound
+
+pub read_list-push_element-requires-in-Long-clause-begun : goal.read_list-push_element-requires-in-Long-clause-begun
+read_list-push_element-requires-in-Long-clause-begun = lists.read_list-push_element-requires-in-Long-clause-begun
+
+pub read_list-push_element-requires-in-Long-clause-stands : goal.read_list-push_element-requires-in-Long-clause-stands
+read_list-push_element-requires-in-Long-clause-stands = lists.read_list-push_element-requires-in-Long-clause-stands
+
 pub read_list-read_part-requires : goal.read_list-read_part-requires
 read_list-read_part-requires = lists.read_list-read_part-requires
 
-pub read_list-push_element-requires-else-sparse-clause-sound : goal.read_list-push_element-requires-else-sparse-clause-sound
-read_list-push_element-requires-else-sparse-clause-sound = lists.read_list-push_element-requires-else-sparse-clause-sound
+pub read_list-push_element-requires-in_default-shape_type-clause-sound : goal.read_list-push_element-requires-in_default-shape_type-clause-sound
+read_list-push_element-requires-in_default-shape_type-clause-sound = lists.read_list-push_element-requires-in_default-shape_type-clause-sound
 
-pub read_list-push_element-requires-else-sparse-clause-begun : goal.read_list-push_element-requires-else-sparse-clause-begun
-read_list-push_element-requires-else-sparse-clause-begun = lists.read_list-push_element-requires-else-sparse-clause-begun
+pub read_list-push_element-requires-in_default-shape_type-clause-begun : goal.read_list-push_element-requires-in_default-shape_type-clause-begun
+read_list-push_element-requires-in_default-shape_type-clause-begun = lists.read_list-push_element-requires-in_default-shape_type-clause-begun
 
-pub read_list-push_element-requires-else-sparse-clause-stands : goal.read_list-push_element-requires-else-sparse-clause-stands
-read_list-push_element-requires-else-sparse-clause-stands = lists.read_list-push_element-requires-else-sparse-clause-stands
+pub read_list-push_element-requires-in_default-shape_type-clause-stands : goal.read_list-push_element-requires-in_default-shape_type-clause-stands
+read_list-push_element-requires-in_default-shape_type-clause-stands = lists.read_list-push_element-requires-in_default-shape_type-clause-stands
 
 pub read_list-list-requires-clause-sound : goal.read_list-list-requires-clause-sound
 read_list-list-requires-clause-sound = lists.read_list-list-requires-clause-sound

@@ -1,12 +1,13 @@
 -- Answers on lists.
-use Rattle.std.proofs.Common.{None, false, refl, sym, ap, true, ◌∙◌, ◌≡◌, suc, length, arith, rules}
+use Rattle.std.proofs.Common.{Ok, None, Some, false, refl, sym, ap, true, ◌∙◌, ◌≡◌, suc, length, arith, rules}
 use Rattle.std.proofs.lemmas.Result.{err_from_is_err_and}
 use Rattle.smithy_shapes.specs.Site.{site_of}
+use Rattle.smithy_declarations.specs.declared.shape_type.Scalar.TheVariants as scalars
 use Rattle.smithy_declarations.specs.Table.{kind_of}
 use Rattle.smithy_schema.specs.Reading.{depth, child_null}
 use Rattle.smithy_schema.proofs.ReadContainers.{left_falls}
 use Rattle.smithy_schema.proofs.ReadLists.{IsNoNull, element_falls, element_place, list_contains}
-use Rattle.smithy_value.proofs.ReadAnswers.{obeyed, open_fails, memory_fails}
+use Rattle.smithy_value.proofs.ReadAnswers.{obeyed, open_fails, memory_fails, scalar_fails, scalar_made}
 use Rattle.smithy_value.proofs.HalfRead.{stepped_to, value_passed, goes_no_further, ends_whole}
 use Rattle.smithy_value.proofs.Made.{made_shown, made_added, half_sound_at}
 use Rattle.smithy_value.proofs.HalfElements.{list_entered, element_passed, element_fails, null_passed, null_fails}
@@ -121,6 +122,74 @@ read_list-loop-elements-preserved-then-is_null g t c =
       half = rw (c.in_ok-push_element.ensures.ok, c.null.ensures.shows c.loop-elements.trees) (null_passed _ _ _ _ laws outer _ _ _ _ _ (c.is_sparse-sparse.ensures.0 c.if-sparse.true) half step nulls passes);
     }
 
+-- a number was refused
+pub read_list-returns-in_err-number : goal.read_list-returns-in_err-number
+read_list-returns-in_err-number g t c =
+    let d = g.met.D.ShapeDeserializer in
+    let s0 = g.D.ShapeDeserializer.settings c.args.source.now in
+    let laws = obeyed _ _ _ (d.lawful s0) (d.lifted_lawful s0) (d.above s0) (d.counts s0) in
+    let outer = site_of c.args.schema.now in
+    let half = c.loop-elements.invariant.half in
+    let same = c.loop-elements.invariant.same in
+    let step = rw (c.if-branch.true, same) at (c.in_ok-next_element.ensures.goes_on.ok half.kept.due c.args.schema.now.shapes.now c.args.schema.now.place c.requires.place) in
+    let place = element_place c.args.schema.now c.in-Some.element c.requires.place c.in-Some.ensures in
+    let no_null : IsNoNull (g.D.ShapeDeserializer.reading s0).wire (g.D.ShapeDeserializer.state c.next_element.new.self) (kind_of c.args.schema.now.shapes.now c.args.schema.now.place) = λ sparse. elim c.else-sparse.branch [
+      | read_list-else-sparse-via-then-sparse+else-is_null w ↦ rw (c.next_element.ensures.same, same) at (sym w.is_null.ensures ∙ w.if-is_null.false)
+      | read_list-else-sparse-via-else-sparse w ↦ absurd (let found : true ≡ false = sym (c.is_sparse-sparse.ensures.1 sparse) ∙ w.if-sparse.false in cc)
+    ] in
+    let is = ap Some (sym c.in-Long.is) ∙ c.shape_type.ensures in
+    let p = err_from_is_err_and c.from_residual-in_err-number.result c.from_residual-in_err-number.ensures.1 in
+    rw (p.1, p.2)
+    (record {
+      same = c.read_long.ensures.same ∙ c.next_element.ensures.same ∙ same;
+      reads = element_fails _ _ _ _ laws (g.P.Trees.view c.loop-elements.trees) _ outer (site_of c.in-Some.element) _ _ _ _ _ _ c.requires.place place half step no_null
+          (scalar_fails _ _ _ _ scalars.Long _ (g.P.Trees.view c.loop-elements.trees) (site_of c.in-Some.element) _ _ _ is step.due (rw (c.next_element.ensures.same, same) at c.in_err-number.ensures.read));
+      adds = tt;
+    })
+
+-- memory ran out for it
+pub read_list-returns-in_err-push_element-2 : goal.read_list-returns-in_err-push_element-2
+read_list-returns-in_err-push_element-2 g t c =
+    let d = g.met.D.ShapeDeserializer in
+    let s0 = g.D.ShapeDeserializer.settings c.args.source.now in
+    let laws = obeyed _ _ _ (d.lawful s0) (d.lifted_lawful s0) (d.above s0) (d.counts s0) in
+    let outer = site_of c.args.schema.now in
+    let half = c.loop-elements.invariant.half in
+    let same = c.loop-elements.invariant.same in
+    let step = rw (c.if-branch.true, same) at (c.in_ok-next_element.ensures.goes_on.ok half.kept.due c.args.schema.now.shapes.now c.args.schema.now.place c.requires.place) in
+    let is = ap Some (sym c.in-Long.is) ∙ c.shape_type.ensures in
+    let reads = scalar_made _ _ _ _ scalars.Long _ (g.P.Trees.view c.loop-elements.trees) (site_of c.in-Some.element) _ _ _ _ (Ok c.whole.result) (d.counts s0) is (rw (c.next_element.ensures.same, same) at c.in_ok-number.ensures.read) (search rules) (c.whole.ensures.shows c.loop-elements.trees) tt in
+    let p = err_from_is_err_and c.from_residual-in_err-push_element-2.result c.from_residual-in_err-push_element-2.ensures.1 in
+    rw (p.1, p.2)
+    (record {
+      same = c.read_long.ensures.same ∙ c.next_element.ensures.same ∙ same;
+      reads = memory_fails _ _ _ _ _ outer _ _ _ (value_passed _ _ _ _ laws _ (site_of c.in-Some.element) _ _ _ _ (stepped_to _ _ _ laws _ _ _ _ _ None half.reached step) reads) c.in_err-push_element-2.ensures.err;
+      adds = tt;
+    })
+
+-- a number was read
+pub read_list-loop-elements-preserved-in-Continue-branch-6 : goal.read_list-loop-elements-preserved-in-Continue-branch-6
+read_list-loop-elements-preserved-in-Continue-branch-6 g t c =
+    let d = g.met.D.ShapeDeserializer in
+    let s0 = g.D.ShapeDeserializer.settings c.args.source.now in
+    let laws = obeyed _ _ _ (d.lawful s0) (d.lifted_lawful s0) (d.above s0) (d.counts s0) in
+    let outer = site_of c.args.schema.now in
+    let half = c.loop-elements.invariant.half in
+    let same = c.loop-elements.invariant.same in
+    let step = rw (c.if-branch.true, same) at (c.in_ok-next_element.ensures.goes_on.ok half.kept.due c.args.schema.now.shapes.now c.args.schema.now.place c.requires.place) in
+    let place = element_place c.args.schema.now c.in-Some.element c.requires.place c.in-Some.ensures in
+    let no_null : IsNoNull (g.D.ShapeDeserializer.reading s0).wire (g.D.ShapeDeserializer.state c.next_element.new.self) (kind_of c.args.schema.now.shapes.now c.args.schema.now.place) = λ sparse. elim c.else-sparse.branch [
+      | read_list-else-sparse-via-then-sparse+else-is_null w ↦ rw (c.next_element.ensures.same, same) at (sym w.is_null.ensures ∙ w.if-is_null.false)
+      | read_list-else-sparse-via-else-sparse w ↦ absurd (let found : true ≡ false = sym (c.is_sparse-sparse.ensures.1 sparse) ∙ w.if-sparse.false in cc)
+    ] in
+    let is = ap Some (sym c.in-Long.is) ∙ c.shape_type.ensures in
+    let reads = scalar_made _ _ _ _ scalars.Long _ (g.P.Trees.view c.loop-elements.trees) (site_of c.in-Some.element) _ _ _ _ (Ok c.whole.result) (d.counts s0) is (rw (c.next_element.ensures.same, same) at c.in_ok-number.ensures.read) (search rules) (c.whole.ensures.shows c.loop-elements.trees) tt in
+    record {
+      same = c.read_long.ensures.same ∙ c.next_element.ensures.same ∙ same;
+      begun = c.in_ok-push_element-2.ensures.begun c.args.trees.now c.loop-elements.invariant.begun;
+      half = rw c.in_ok-push_element-2.ensures.ok (element_passed _ _ _ _ laws outer (site_of c.in-Some.element) _ _ _ _ _ _ _ place half step no_null reads.ok);
+    }
+
 -- an element was refused
 pub read_list-returns-in_err-item : goal.read_list-returns-in_err-item
 read_list-returns-in_err-item g t c =
@@ -145,8 +214,8 @@ read_list-returns-in_err-item g t c =
     })
 
 -- memory ran out for it
-pub read_list-returns-in_err-push_element-2 : goal.read_list-returns-in_err-push_element-2
-read_list-returns-in_err-push_element-2 g t c =
+pub read_list-returns-in_err-push_element-3 : goal.read_list-returns-in_err-push_element-3
+read_list-returns-in_err-push_element-3 g t c =
     let d = g.met.D.ShapeDeserializer in
     let s0 = g.D.ShapeDeserializer.settings c.args.source.now in
     let laws = obeyed _ _ _ (d.lawful s0) (d.lifted_lawful s0) (d.above s0) (d.counts s0) in
@@ -155,11 +224,11 @@ read_list-returns-in_err-push_element-2 g t c =
     let same = c.loop-elements.invariant.same in
     let step = rw (c.if-branch.true, same) at (c.in_ok-next_element.ensures.goes_on.ok half.kept.due c.args.schema.now.shapes.now c.args.schema.now.place c.requires.place) in
     let reads = rw (c.next_element.ensures.same, same) at c.in_ok-item.ensures.reads in
-    let p = err_from_is_err_and c.from_residual-in_err-push_element-2.result c.from_residual-in_err-push_element-2.ensures.1 in
+    let p = err_from_is_err_and c.from_residual-in_err-push_element-3.result c.from_residual-in_err-push_element-3.ensures.1 in
     rw (p.1, p.2)
     (record {
       same = c.read_part.ensures.same ∙ c.next_element.ensures.same ∙ same;
-      reads = memory_fails _ _ _ _ _ outer _ _ _ (value_passed _ _ _ _ laws _ (site_of c.in-Some.element) _ _ _ _ (stepped_to _ _ _ laws _ _ _ _ _ None half.reached step) reads) c.in_err-push_element-2.ensures.err;
+      reads = memory_fails _ _ _ _ _ outer _ _ _ (value_passed _ _ _ _ laws _ (site_of c.in-Some.element) _ _ _ _ (stepped_to _ _ _ laws _ _ _ _ _ None half.reached step) reads) c.in_err-push_element-3.ensures.err;
       adds = tt;
     })
 
@@ -186,8 +255,8 @@ read_list-loop-elements-preserved g t c =
     let q = c.read_part.new.trees in
     record {
       same = c.read_part.ensures.same ∙ c.next_element.ensures.same ∙ same;
-      begun = c.in_ok-push_element-2.ensures.begun c.args.trees.now (grows.begun_still c.args.trees.now p q c.loop-elements.elements begun grown);
-      half = rw (c.in_ok-push_element-2.ensures.ok, grows.shown_still c.args.trees.now p q c.loop-elements.elements begun grown) (element_passed _ _ _ _ laws outer (site_of c.in-Some.element) _ _ _ _ _ _ _ place half step no_null reads.ok);
+      begun = c.in_ok-push_element-3.ensures.begun c.args.trees.now (grows.begun_still c.args.trees.now p q c.loop-elements.elements begun grown);
+      half = rw (c.in_ok-push_element-3.ensures.ok, grows.shown_still c.args.trees.now p q c.loop-elements.elements begun grown) (element_passed _ _ _ _ laws outer (site_of c.in-Some.element) _ _ _ _ _ _ _ place half step no_null reads.ok);
     }
 
 -- the list ended
@@ -218,6 +287,24 @@ read_list-loop-elements-smaller-then-is_null g t c =
     let passes = c.in_ok-read_null.ensures.reads.passes begins in
     rw (c.read_null.ensures.same, c.next_element.ensures.same, same)
     (left_falls _ _ _ (g.met.D.ShapeDeserializer.lawful s0) _ _ _ _ _ _ _ _ None (child_null None) half.kept step (refl, c.is_sparse-sparse.ensures.0 c.if-sparse.true, nulls) passes)
+
+pub read_list-loop-elements-smaller-in-Continue-branch-6 : goal.read_list-loop-elements-smaller-in-Continue-branch-6
+read_list-loop-elements-smaller-in-Continue-branch-6 g t c =
+    let d = g.met.D.ShapeDeserializer in
+    let s0 = g.D.ShapeDeserializer.settings c.args.source.now in
+    let half = c.loop-elements.invariant.half in
+    let same = c.loop-elements.invariant.same in
+    let step = rw (c.if-branch.true, same) at (c.in_ok-next_element.ensures.goes_on.ok half.kept.due c.args.schema.now.shapes.now c.args.schema.now.place c.requires.place) in
+    let place = element_place c.args.schema.now c.in-Some.element c.requires.place c.in-Some.ensures in
+    let no_null : IsNoNull (g.D.ShapeDeserializer.reading s0).wire (g.D.ShapeDeserializer.state c.next_element.new.self) (kind_of c.args.schema.now.shapes.now c.args.schema.now.place) = λ sparse. elim c.else-sparse.branch [
+      | read_list-else-sparse-via-then-sparse+else-is_null w ↦ rw (c.next_element.ensures.same, same) at (sym w.is_null.ensures ∙ w.if-is_null.false)
+      | read_list-else-sparse-via-else-sparse w ↦ absurd (let found : true ≡ false = sym (c.is_sparse-sparse.ensures.1 sparse) ∙ w.if-sparse.false in cc)
+    ] in
+    let is = ap Some (sym c.in-Long.is) ∙ c.shape_type.ensures in
+    let made = scalar_made _ _ _ _ scalars.Long _ (g.P.Trees.view c.loop-elements.trees) (site_of c.in-Some.element) _ _ _ _ (Ok c.whole.result) (d.counts s0) is (rw (c.next_element.ensures.same, same) at c.in_ok-number.ensures.read) (search rules) (c.whole.ensures.shows c.loop-elements.trees) tt in
+    let reads = rw place.0 at made.ok in
+    rw (c.read_long.ensures.same, c.next_element.ensures.same, same)
+    (element_falls _ _ _ (g.met.D.ShapeDeserializer.lawful s0) _ _ _ _ _ _ c.in-Some.element.place _ _ half.kept step no_null place.1 reads)
 
 pub read_list-loop-elements-smaller : goal.read_list-loop-elements-smaller
 read_list-loop-elements-smaller g t c =
@@ -250,6 +337,18 @@ pub read_list-push_element-requires-clause-stands : goal.read_list-push_element-
 read_list-push_element-requires-clause-stands g t c =
     c.null.ensures.stands c.loop-elements.trees
 
+pub read_list-push_element-requires-in-Long-clause-sound : goal.read_list-push_element-requires-in-Long-clause-sound
+read_list-push_element-requires-in-Long-clause-sound g t c =
+    (_, g.P.Trees.elements_grow_lawfully.sound_still c.args.trees.now c.loop-elements.trees _ c.loop-elements.elements c.requires.sound c.loop-elements.invariant.begun)
+
+pub read_list-push_element-requires-in-Long-clause-begun : goal.read_list-push_element-requires-in-Long-clause-begun
+read_list-push_element-requires-in-Long-clause-begun g t c =
+    (c.args.trees.now, c.loop-elements.invariant.begun)
+
+pub read_list-push_element-requires-in-Long-clause-stands : goal.read_list-push_element-requires-in-Long-clause-stands
+read_list-push_element-requires-in-Long-clause-stands g t c =
+    c.whole.ensures.stands c.loop-elements.trees
+
 pub read_list-read_part-requires : goal.read_list-read_part-requires
 read_list-read_part-requires g t c κs within =
     let half = c.loop-elements.invariant.half in
@@ -262,20 +361,20 @@ read_list-read_part-requires g t c κs within =
     let sound = half_sound_at g.P.Trees.elements_grow_lawfully c.args.trees.now c.loop-elements.trees _ _ c.loop-elements.elements c.requires.sound c.loop-elements.invariant.begun (step.input ∙ half.reached.input) in
     (omega (arith, most, level, shallow, c.decreases), (search rules, (search rules, (search rules, (search rules, (search rules, (search rules, (search rules, (search rules, (step.due, sound))))))))))
 
-pub read_list-push_element-requires-else-sparse-clause-sound : goal.read_list-push_element-requires-else-sparse-clause-sound
-read_list-push_element-requires-else-sparse-clause-sound g t c =
+pub read_list-push_element-requires-in_default-shape_type-clause-sound : goal.read_list-push_element-requires-in_default-shape_type-clause-sound
+read_list-push_element-requires-in_default-shape_type-clause-sound g t c =
     let grows = g.P.Trees.elements_grow_lawfully in
     let begun = grows.begun_still c.args.trees.now c.loop-elements.trees c.read_part.new.trees c.loop-elements.elements c.loop-elements.invariant.begun c.in_ok-item.ensures.adds.0 in
     (_, grows.sound_still c.args.trees.now c.read_part.new.trees _ c.loop-elements.elements c.requires.sound begun)
 
-pub read_list-push_element-requires-else-sparse-clause-begun : goal.read_list-push_element-requires-else-sparse-clause-begun
-read_list-push_element-requires-else-sparse-clause-begun g t c =
+pub read_list-push_element-requires-in_default-shape_type-clause-begun : goal.read_list-push_element-requires-in_default-shape_type-clause-begun
+read_list-push_element-requires-in_default-shape_type-clause-begun g t c =
     let grows = g.P.Trees.elements_grow_lawfully in
     let begun = grows.begun_still c.args.trees.now c.loop-elements.trees c.read_part.new.trees c.loop-elements.elements c.loop-elements.invariant.begun c.in_ok-item.ensures.adds.0 in
     (c.args.trees.now, begun)
 
-pub read_list-push_element-requires-else-sparse-clause-stands : goal.read_list-push_element-requires-else-sparse-clause-stands
-read_list-push_element-requires-else-sparse-clause-stands g t c =
+pub read_list-push_element-requires-in_default-shape_type-clause-stands : goal.read_list-push_element-requires-in_default-shape_type-clause-stands
+read_list-push_element-requires-in_default-shape_type-clause-stands g t c =
     c.in_ok-item.ensures.adds.1
 
 pub read_list-list-requires-clause-sound : goal.read_list-list-requires-clause-sound
