@@ -215,12 +215,13 @@ fn read_list<P: Trees, D: PieceDeserializer<Text = P::Text, Bytes = P::Bytes>>(
     let Some(element) = schema.member() else {
         unreachable!()
     };
+    let kind = element.shape_type();
     let mut elements = trees.no_elements(alloc);
     while source.next_element()? {
         if sparse && source.is_null() {
             source.read_null()?;
             trees.push_element(&mut elements, P::null())?;
-        } else if let ShapeType::Long = element.shape_type() {
+        } else if let ShapeType::Long = kind {
             // The elements of long lists are mostly numbers, and one is read here without the answer of a call for any kind.
             let number = source.read_long(&element)?;
             trees.push_element(&mut elements, P::whole(number))?;

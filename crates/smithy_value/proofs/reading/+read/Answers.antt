@@ -313,14 +313,14 @@ read_list-push_element-requires-in-Long-clause-stands = lists.read_list-push_ele
 pub read_list-read_part-requires : goal.read_list-read_part-requires
 read_list-read_part-requires = lists.read_list-read_part-requires
 
-pub read_list-push_element-requires-in_default-shape_type-clause-sound : goal.read_list-push_element-requires-in_default-shape_type-clause-sound
-read_list-push_element-requires-in_default-shape_type-clause-sound = lists.read_list-push_element-requires-in_default-shape_type-clause-sound
+pub read_list-push_element-requires-in_default-kind-clause-sound : goal.read_list-push_element-requires-in_default-kind-clause-sound
+read_list-push_element-requires-in_default-kind-clause-sound = lists.read_list-push_element-requires-in_default-kind-clause-sound
 
-pub read_list-push_element-requires-in_default-shape_type-clause-begun : goal.read_list-push_element-requires-in_default-shape_type-clause-begun
-read_list-push_element-requires-in_default-shape_type-clause-begun = lists.read_list-push_element-requires-in_default-shape_type-clause-begun
+pub read_list-push_element-requires-in_default-kind-clause-begun : goal.read_list-push_element-requires-in_default-kind-clause-begun
+read_list-push_element-requires-in_default-kind-clause-begun = lists.read_list-push_element-requires-in_default-kind-clause-begun
 
-pub read_list-push_element-requires-in_default-shape_type-clause-stands : goal.read_list-push_element-requires-in_default-shape_type-clause-stands
-read_list-push_element-requires-in_default-shape_type-clause-stands = lists.read_list-push_element-requires-in_default-shape_type-clause-stands
+pub read_list-push_element-requires-in_default-kind-clause-stands : goal.read_list-push_element-requires-in_default-kind-clause-stands
+read_list-push_element-requires-in_default-kind-clause-stands = lists.read_list-push_element-requires-in_default-kind-clause-stands
 
 pub read_list-list-requires-clause-sound : goal.read_list-list-requires-clause-sound
 read_list-list-requires-clause-sound = lists.read_list-list-requires-clause-sound

@@ -137,7 +137,7 @@ read_list-returns-in_err-number g t c =
       | read_list-else-sparse-via-then-sparse+else-is_null w ↦ rw (c.next_element.ensures.same, same) at (sym w.is_null.ensures ∙ w.if-is_null.false)
       | read_list-else-sparse-via-else-sparse w ↦ absurd (let found : true ≡ false = sym (c.is_sparse-sparse.ensures.1 sparse) ∙ w.if-sparse.false in cc)
     ] in
-    let is = ap Some (sym c.in-Long.is) ∙ c.shape_type.ensures in
+    let is = ap Some (sym c.in-Long.is) ∙ c.shape_type-kind.ensures in
     let p = err_from_is_err_and c.from_residual-in_err-number.result c.from_residual-in_err-number.ensures.1 in
     rw (p.1, p.2)
     (record {
@@ -157,7 +157,7 @@ read_list-returns-in_err-push_element-2 g t c =
     let half = c.loop-elements.invariant.half in
     let same = c.loop-elements.invariant.same in
     let step = rw (c.if-branch.true, same) at (c.in_ok-next_element.ensures.goes_on.ok half.kept.due c.args.schema.now.shapes.now c.args.schema.now.place c.requires.place) in
-    let is = ap Some (sym c.in-Long.is) ∙ c.shape_type.ensures in
+    let is = ap Some (sym c.in-Long.is) ∙ c.shape_type-kind.ensures in
     let reads = scalar_made _ _ _ _ scalars.Long _ (g.P.Trees.view c.loop-elements.trees) (site_of c.in-Some.element) _ _ _ _ (Ok c.whole.result) (d.counts s0) is (rw (c.next_element.ensures.same, same) at c.in_ok-number.ensures.read) (search rules) (c.whole.ensures.shows c.loop-elements.trees) tt in
     let p = err_from_is_err_and c.from_residual-in_err-push_element-2.result c.from_residual-in_err-push_element-2.ensures.1 in
     rw (p.1, p.2)
@@ -182,7 +182,7 @@ read_list-loop-elements-preserved-in-Continue-branch-6 g t c =
       | read_list-else-sparse-via-then-sparse+else-is_null w ↦ rw (c.next_element.ensures.same, same) at (sym w.is_null.ensures ∙ w.if-is_null.false)
       | read_list-else-sparse-via-else-sparse w ↦ absurd (let found : true ≡ false = sym (c.is_sparse-sparse.ensures.1 sparse) ∙ w.if-sparse.false in cc)
     ] in
-    let is = ap Some (sym c.in-Long.is) ∙ c.shape_type.ensures in
+    let is = ap Some (sym c.in-Long.is) ∙ c.shape_type-kind.ensures in
     let reads = scalar_made _ _ _ _ scalars.Long _ (g.P.Trees.view c.loop-elements.trees) (site_of c.in-Some.element) _ _ _ _ (Ok c.whole.result) (d.counts s0) is (rw (c.next_element.ensures.same, same) at c.in_ok-number.ensures.read) (search rules) (c.whole.ensures.shows c.loop-elements.trees) tt in
     record {
       same = c.read_long.ensures.same ∙ c.next_element.ensures.same ∙ same;
@@ -300,7 +300,7 @@ read_list-loop-elements-smaller-in-Continue-branch-6 g t c =
       | read_list-else-sparse-via-then-sparse+else-is_null w ↦ rw (c.next_element.ensures.same, same) at (sym w.is_null.ensures ∙ w.if-is_null.false)
       | read_list-else-sparse-via-else-sparse w ↦ absurd (let found : true ≡ false = sym (c.is_sparse-sparse.ensures.1 sparse) ∙ w.if-sparse.false in cc)
     ] in
-    let is = ap Some (sym c.in-Long.is) ∙ c.shape_type.ensures in
+    let is = ap Some (sym c.in-Long.is) ∙ c.shape_type-kind.ensures in
     let made = scalar_made _ _ _ _ scalars.Long _ (g.P.Trees.view c.loop-elements.trees) (site_of c.in-Some.element) _ _ _ _ (Ok c.whole.result) (d.counts s0) is (rw (c.next_element.ensures.same, same) at c.in_ok-number.ensures.read) (search rules) (c.whole.ensures.shows c.loop-elements.trees) tt in
     let reads = rw place.0 at made.ok in
     rw (c.read_long.ensures.same, c.next_element.ensures.same, same)
@@ -361,20 +361,20 @@ read_list-read_part-requires g t c κs within =
     let sound = half_sound_at g.P.Trees.elements_grow_lawfully c.args.trees.now c.loop-elements.trees _ _ c.loop-elements.elements c.requires.sound c.loop-elements.invariant.begun (step.input ∙ half.reached.input) in
     (omega (arith, most, level, shallow, c.decreases), (search rules, (search rules, (search rules, (search rules, (search rules, (search rules, (search rules, (search rules, (step.due, sound))))))))))
 
-pub read_list-push_element-requires-in_default-shape_type-clause-sound : goal.read_list-push_element-requires-in_default-shape_type-clause-sound
-read_list-push_element-requires-in_default-shape_type-clause-sound g t c =
+pub read_list-push_element-requires-in_default-kind-clause-sound : goal.read_list-push_element-requires-in_default-kind-clause-sound
+read_list-push_element-requires-in_default-kind-clause-sound g t c =
     let grows = g.P.Trees.elements_grow_lawfully in
     let begun = grows.begun_still c.args.trees.now c.loop-elements.trees c.read_part.new.trees c.loop-elements.elements c.loop-elements.invariant.begun c.in_ok-item.ensures.adds.0 in
     (_, grows.sound_still c.args.trees.now c.read_part.new.trees _ c.loop-elements.elements c.requires.sound begun)
 
-pub read_list-push_element-requires-in_default-shape_type-clause-begun : goal.read_list-push_element-requires-in_default-shape_type-clause-begun
-read_list-push_element-requires-in_default-shape_type-clause-begun g t c =
+pub read_list-push_element-requires-in_default-kind-clause-begun : goal.read_list-push_element-requires-in_default-kind-clause-begun
+read_list-push_element-requires-in_default-kind-clause-begun g t c =
     let grows = g.P.Trees.elements_grow_lawfully in
     let begun = grows.begun_still c.args.trees.now c.loop-elements.trees c.read_part.new.trees c.loop-elements.elements c.loop-elements.invariant.begun c.in_ok-item.ensures.adds.0 in
     (c.args.trees.now, begun)
 
-pub read_list-push_element-requires-in_default-shape_type-clause-stands : goal.read_list-push_element-requires-in_default-shape_type-clause-stands
-read_list-push_element-requires-in_default-shape_type-clause-stands g t c =
+pub read_list-push_element-requires-in_default-kind-clause-stands : goal.read_list-push_element-requires-in_default-kind-clause-stands
+read_list-push_element-requires-in_default-kind-clause-stands g t c =
     c.in_ok-item.ensures.adds.1
 
 pub read_list-list-requires-clause-sound : goal.read_list-list-requires-clause-sound
