@@ -7,6 +7,7 @@ use smithy_json_grammar::number_text::scan_number;
 use smithy_json_grammar::string_text::scan_string;
 use smithy_json_tokens::{Offset, Token};
 use smithy_schema::TableFault;
+use smithy_transcode::Wire;
 use smithy_types::{BigDecimal, BigInteger, Blob, DateTime, Number};
 use std::alloc::Global;
 use std::hash::{DefaultHasher, Hash, Hasher};
@@ -99,6 +100,24 @@ fn tokens_and_faults_are_compared(rt: HostRuntime) {
     assert!(rt; TableFault::BadLine(3) == TableFault::BadLine(3));
     assert!(rt; TableFault::BadLine(3) != TableFault::BadLine(4));
     assert!(rt; TableFault::TooMany(3) != TableFault::NoMemory);
+}
+
+#[test]
+fn wires_are_compared_by_what_is_chosen(rt: HostRuntime) -> Result<(), Fail> {
+    let cbor = Wire::Cbor { definite: true };
+    assert!(rt; cbor == Wire::Cbor { definite: true });
+    assert!(rt; cbor != Wire::Cbor { definite: false });
+    let form = Wire::Query {
+        action: "A".to_string(rt.alloc())?,
+        version: "1".to_string(rt.alloc())?,
+    };
+    let later = Wire::Query {
+        action: "A".to_string(rt.alloc())?,
+        version: "2".to_string(rt.alloc())?,
+    };
+    assert!(rt; form != later);
+    assert!(rt; form != cbor);
+    Ok(())
 }
 
 #[test]

@@ -7,13 +7,13 @@ use smithy_json::EscapeError;
 use smithy_model::ModelFault;
 use smithy_model_table::WantedFault;
 use smithy_outside::{Failed, LoadFault};
-use smithy_schema::{SerdeError, TableFault};
+use smithy_schema::{SerdeError, Step, TableFault, TextSpan};
 use smithy_table_text::TextFault;
 use smithy_transcode::{TranscodeError, Unfit};
 use smithy_types::{BigNumberError, DateTimeFormatError, base64};
 use std::alloc::Global;
 use std::borrow::CowStr;
-use std::fmt::Display;
+use std::fmt::{Debug, Display};
 
 /// Whether a value prints as this text.
 pub fn prints<T: Display + Drop>(alloc: Global, value: T, text: &str) -> bool {
@@ -83,4 +83,19 @@ fn what_a_caller_states_prints_its_name(rt: HostRuntime) {
         )
     );
     assert!(rt; prints(alloc, TextFault::Unwritable, "Unwritable"));
+}
+
+// Whether a value prints as this text for debugging.
+fn shows<T: Debug + Drop>(alloc: Global, value: T, text: &str) -> bool {
+    match format!(in alloc; "{value:?}") {
+        Ok(shown) => shown.as_str() == text,
+        Err(_) => false,
+    }
+}
+
+#[test]
+fn steps_and_places_show_their_parts(rt: HostRuntime) {
+    let alloc = rt.alloc();
+    assert!(rt; shows(alloc, Step::End, "End"));
+    assert!(rt; shows(alloc, TextSpan::Placed(1, 2), "Placed(1, 2)"));
 }

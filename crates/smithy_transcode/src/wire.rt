@@ -3,7 +3,7 @@
 use thiserror::Error;
 
 /// A form in which a value is carried.
-#[derive(Debug, Drop)]
+#[derive(Debug, Drop, PartialEq, Eq)]
 pub enum Wire {
     /// JSON (RFC 8259).
     Json {
