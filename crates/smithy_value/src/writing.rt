@@ -131,9 +131,14 @@ fn write_numbers<S: ShapeSerializer>(
         unreachable!()
     };
     let element_schema = member.nameless();
+    let kind = element_schema.shape_type();
     sink.begin_list(schema, Some(numbers.len()))?;
     for number in numbers {
-        write_whole_number(sink, &element_schema, i128::from(*number))?;
+        if let ShapeType::Long = kind {
+            sink.write_long(&element_schema, *number)?;
+        } else {
+            write_whole_number(sink, &element_schema, i128::from(*number))?;
+        }
     }
     sink.end_list()
 }
