@@ -222,7 +222,7 @@ fn read_list<P: Trees, D: PieceDeserializer<Text = P::Text, Bytes = P::Bytes>>(
             source.read_null()?;
             trees.push_element(&mut elements, P::null())?;
         } else if let ShapeType::Long = kind {
-            // The elements of long lists are mostly numbers, and one is read here without the answer of a call for any kind.
+            // A list may have millions of longs, so each is read here, without the answer of a call for any kind.
             let number = source.read_long(&element)?;
             trees.push_element(&mut elements, P::whole(number))?;
         } else {

@@ -135,6 +135,7 @@ fn write_numbers<S: ShapeSerializer>(
     sink.begin_list(schema, Some(numbers.len()))?;
     for number in numbers {
         if let ShapeType::Long = kind {
+            // A list may have millions of longs, so the kind of each isn't asked again.
             sink.write_long(&element_schema, *number)?;
         } else {
             write_whole_number(sink, &element_schema, i128::from(*number))?;
