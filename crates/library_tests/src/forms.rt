@@ -1,7 +1,4 @@
-//! Forms that the writers write.
-
-ghost use Rattle.std.specs.Prelude.{◌≡◌};
-ghost use Rattle.smithy_query.specs.Writer.{list_index, map_index};
+//! Forms that the writers write, as a caller writes them who proves nothing of his own.
 
 use smithy_query::{QueryListWriter, QueryMapWriter, QueryValueWriter, QueryWriter};
 use smithy_types::{DateTime, DateTimeFormatError, Format, Number};
@@ -10,15 +7,27 @@ use std::borrow::CowStr;
 use std::process::Abort;
 use std::test::Fail;
 
-// A list of one element and a flat map of one entry.
+// A list of three elements and a flat map of two entries.
 fn write_list_and_map(form: &mut QueryWriter<'_>) -> Result<(), AllocError> {
     let mut list = form.prefix("ItemList").start_list(false, Some("item"));
     list.entry()?.string("foo")?;
+    list.entry()?.string("")?;
+    list.entry()?.string("baz")?;
     list.finish()?;
     let mut map = form.prefix("Tags").start_map(true, "key", "value");
     map.entry("bar")?.string("Bar")?;
+    map.entry("foo")?.string("Foo")?;
     map.finish();
     Ok(())
+}
+
+// A list with an element for each text.
+fn write_texts(form: &mut QueryWriter<'_>, texts: &[&str]) -> Result<(), AllocError> {
+    let mut list = form.prefix("L").start_list(false, None);
+    for text in texts {
+        list.entry()?.string(text)?;
+    }
+    list.finish()
 }
 
 #[test]
@@ -26,10 +35,12 @@ fn writes_lists_and_maps(rt: HostRuntime) -> Result<(), Fail> {
     let mut text = String::new(rt.alloc());
     let mut form = QueryWriter::new(&mut text, "Some Action", "1 2")?;
     write_list_and_map(&mut form)?;
+    write_texts(&mut form, &["a", "b c", "d"])?;
     form.finish();
     assert!(rt;
         text.as_str()
-            == "Action=Some%20Action&Version=1%202&ItemList.item.1=foo&Tags.1.key=bar&Tags.1.value=Bar"
+            == "Action=Some%20Action&Version=1%202&ItemList.item.1=foo&ItemList.item.2=&ItemList.item.3=baz\
+         &Tags.1.key=bar&Tags.1.value=Bar&Tags.2.key=foo&Tags.2.value=Foo&L.member.1=a&L.member.2=b%20c&L.member.3=d"
     );
     Ok(())
 }
@@ -71,18 +82,14 @@ fn writes_values(rt: HostRuntime) -> Result<(), Fail> {
 }
 
 // Two elements.
-fn write_elements(rt: &impl Abort, list: &mut QueryListWriter<'_>) -> Result<(), AllocError>
-    requires { list_index list.old ≡ 1 }
-{
+fn write_elements(rt: &impl Abort, list: &mut QueryListWriter<'_>) -> Result<(), AllocError> {
     list.entry()?.string("x")?;
     assert!(rt; list.next_index() == 2);
     list.entry()?.string("y")
 }
 
 // A flat list, and a boolean.
-fn write_entries(rt: &impl Abort, map: &mut QueryMapWriter<'_>) -> Result<(), AllocError>
-    requires { map_index map.old ≡ 1 }
-{
+fn write_entries(rt: &impl Abort, map: &mut QueryMapWriter<'_>) -> Result<(), AllocError> {
     let mut list = map.entry("k")?.start_list(true, Some("ignored"));
     write_elements(rt, &mut list)?;
     list.finish()?;
@@ -91,9 +98,7 @@ fn write_entries(rt: &impl Abort, map: &mut QueryMapWriter<'_>) -> Result<(), Al
 }
 
 // A map, and a text.
-fn write_list(rt: &impl Abort, list: &mut QueryListWriter<'_>) -> Result<(), AllocError>
-    requires { list_index list.old ≡ 1 }
-{
+fn write_list(rt: &impl Abort, list: &mut QueryListWriter<'_>) -> Result<(), AllocError> {
     let mut map = list.entry()?.start_map(false, "K", "V");
     write_entries(rt, &mut map)?;
     map.finish();

@@ -1,5 +1,5 @@
 //! Paths of values in a form: segments with points between them.
-ghost use Rattle.std.specs.Prelude.{◌≡◌, ◌++◌, ◌∷◌, [], string_bytes, if◌then◌else◌, OnOk, IfOk};
+ghost use Rattle.std.specs.Prelude.{◌≡◌, ◌<◌, ◌++◌, ◌∷◌, [], string_bytes, if◌then◌else◌, OnOk, IfOk};
 ghost use Rattle.std.specs.Fmt.{decimal};
 ghost use Rattle.smithy_query.specs.Writer.{further};
 
@@ -33,9 +33,14 @@ pub(crate) fn push_group(path: &mut String, is_flat: bool, name: &str) -> Result
     push_segment(path, name)
 }
 
+// Adds the number of a part. The greatest is no part's, so that each part has a number behind it.
 pub(crate) fn push_number(path: &mut String, n: u64) -> Result<(), AllocError>
-    ensures { OnOk result (string_bytes path.new ≡ further (string_bytes path.old) (decimal n ∷ [])) }
+    ensures path { OnOk result (string_bytes path.new ≡ further (string_bytes path.old) (decimal n ∷ [])) }
+    ensures room { OnOk result (n < 18446744073709551615) }
 {
+    if n == u64::MAX {
+        return Err(AllocError);
+    }
     let mut buffer = Buffer::new();
     push_segment(path, buffer.format(n))
 }

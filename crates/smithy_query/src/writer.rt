@@ -252,9 +252,9 @@ impl<'a> QueryListWriter<'a, String> {
     }
 
     /// A place for the next element, under its path. What is written there goes to the list's text, and the
-    /// element counts even if nothing is. The caller's condition is that `next_index` is below `u64::MAX`.
+    /// element counts even if nothing is. A list of 2^64-2 elements, whose next number is `u64::MAX`, takes no
+    /// more: it answers `AllocError`.
     pub fn entry(&mut self) -> Result<QueryValueWriter<'_>, AllocError>
-        requires room { list_index self.old < 18446744073709551615 }
         ensures* lends { sem 𝓛 (LendsElement self.entry value_borrow result) }
         ensures value { IfOk result (λ w. value_text w ≡ list_text self.old) }
         ensures prefix { IfOk result (λ w. value_prefix w ≡ further (list_prefix self.old) (next_element self.old)) }
@@ -263,7 +263,6 @@ impl<'a> QueryListWriter<'a, String> {
     }
 
     fn next_place(&mut self) -> NextPlace<'_>
-        requires room { list_index self.old < 18446744073709551615 }
         ensures* lends { sem 𝓛 (LendsNextElement self.entry result) }
         ensures value { string_bytes result.output.now ≡ list_text self.old }
         ensures path { IfOk result.path (λ p. string_bytes p ≡ further (list_prefix self.old) (next_element self.old)) }
@@ -277,7 +276,8 @@ impl<'a> QueryListWriter<'a, String> {
     }
 
     fn next_path(&self) -> Result<String, AllocError>
-        ensures { IfOk result (λ s. string_bytes s ≡ further (list_prefix self.now) (next_element self.now)) }
+        ensures path { IfOk result (λ s. string_bytes s ≡ further (list_prefix self.now) (next_element self.now)) }
+        ensures room { IfOk result (λ s. list_index self.now < 18446744073709551615) }
     {
         let mut path = joined(*self.output.allocator(), self.base, self.rest.as_str())?;
         push_group(&mut path, self.is_flat, self.member)?;
@@ -326,9 +326,9 @@ impl<'a> QueryMapWriter<'a, String> {
     }
 
     /// Adds the next key, and gives a place for its value, under its path. What is written there goes to the
-    /// map's text. The caller's condition is that `next_index` is below `u64::MAX`.
+    /// map's text. A map of 2^64-2 entries, whose next number is `u64::MAX`, takes no more: it answers
+    /// `AllocError`.
     pub fn entry(&mut self, key: &str) -> Result<QueryValueWriter<'_>, AllocError>
-        requires room { map_index self.old < 18446744073709551615 }
         ensures* lends { sem 𝓛 (LendsEntry self.entry value_borrow result) }
         ensures value { IfOk result (λ w. value_text w ≡ map_text self.old ++ pair_text (further (map_prefix self.old) (next_key self.old)) key.now) }
         ensures prefix { IfOk result (λ w. value_prefix w ≡ further (map_prefix self.old) (next_value self.old)) }
@@ -337,7 +337,6 @@ impl<'a> QueryMapWriter<'a, String> {
     }
 
     fn next_place(&mut self, key: &str) -> NextPlace<'_>
-        requires room { map_index self.old < 18446744073709551615 }
         ensures* lends { sem 𝓛 (LendsNextEntry self.entry result) }
         ensures ok { OnOk result.path (string_bytes result.output.now ≡ map_text self.old ++ pair_text (further (map_prefix self.old) (next_key self.old)) key.now) }
         ensures err { OnErr result.path (string_bytes result.output.now ≡ map_text self.old) }
@@ -354,7 +353,8 @@ impl<'a> QueryMapWriter<'a, String> {
     }
 
     fn next_path(&self, name: &str) -> Result<String, AllocError>
-        ensures { IfOk result (λ s. string_bytes s ≡ further (map_prefix self.now) (entry_path self.now.is_flat self.now.next_index name.now)) }
+        ensures path { IfOk result (λ s. string_bytes s ≡ further (map_prefix self.now) (entry_path self.now.is_flat self.now.next_index name.now)) }
+        ensures room { IfOk result (λ s. map_index self.now < 18446744073709551615) }
     {
         let mut path = joined(*self.output.allocator(), self.base, self.rest.as_str())?;
         push_group(&mut path, self.is_flat, "entry")?;
@@ -410,7 +410,7 @@ fn push_key(
 
 // The number behind that of a part, where the part has a path.
 fn counted(index: u64, path: &Result<String, AllocError>) -> u64
-    requires room { index < 18446744073709551615 }
+    requires room { IfOk path.now (λ p. index < 18446744073709551615) }
     ensures { result ≡ counted path.now index }
 {
     match path {
