@@ -145,8 +145,8 @@ abbrev pub left_mark : Bool → ℕ → Mark
 left_mark told n = mark_with (told_length told n)
 
 has_entry : (told : Bool) (n : ℕ) (i : List ℕ) (b : ℕ) → b < length i → begins_with break (drop b i) ≡ false → HasEntry i b (left_mark told (suc n)) (left_mark told n)
-has_entry true n i b some unbroken = inl (n, refl, refl)
-has_entry false n i b some unbroken = inr (refl, some, unbroken, refl)
+has_entry true n i b some unbroken = (some, inl (n, refl, refl))
+has_entry false n i b some unbroken = (some, inr (refl, unbroken, refl))
 
 -- an element, and what lies behind it
 pub element_lies : (told : Bool) (n : ℕ) (x : Node Item) (xs : Nodes Item) (depth : ℕ) (i : List ℕ) (b c e : ℕ) → c ≤ length i → LiesWritten i depth x b c

@@ -9,8 +9,8 @@ use Rattle.smithy_cbor_values.specs.Private.ItemPlaces.{item_ahead, one_item}
 use Rattle.smithy_cbor_codec.specs.Private.PassedEntries.{HasKey}
 
 pub entry_by_due : (i : List ℕ) (b : ℕ) (m k n : Mark) → m.due ≡ k.due → HasEntry i b m n → HasEntry i b k n
-entry_by_due i b m k n same (inl (count, due, after)) = inl (count, sym same ∙ due, after)
-entry_by_due i b m k n same (inr (due, within, other, after)) = inr (sym same ∙ due, within, other, after)
+entry_by_due i b m k n same (some, inl (count, due, after)) = (some, inl (count, sym same ∙ due, after))
+entry_by_due i b m k n same (some, inr (due, other, after)) = (some, inr (sym same ∙ due, other, after))
 
 pub over_by_due : (i : List ℕ) (b : ℕ) (m k : Mark) (e : ℕ) → m.due ≡ k.due → IsOver i b m e → IsOver i b k e
 over_by_due i b m k e same (inl (due, end)) = inl (sym same ∙ due, end)

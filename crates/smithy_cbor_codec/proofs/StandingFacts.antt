@@ -39,11 +39,6 @@ ClosesNot input t root depth b m = (e : ℕ) → strictly.closes input t (shape_
 
 -- ---- lemmas
 
--- where a step is made, the container doesn't end
-goes_on : (input : List ℕ) (t : Table) (root depth b : ℕ) (m : Mark) (key : Option (List ℕ)) (c : ℕ) (n : Mark) → strictly.steps input t (shape_place root) depth b m key c n
-    → ClosesNot input t root depth b m
-goes_on input t root depth b m key c n step e close = (lawful strict).step_or_close input t (shape_place root) depth b m key c n e step close
-
 -- no null stands where another byte does
 no_null : (input : List ℕ) (c depth : ℕ) → strictly.begins_null input c ≡ false → (e : ℕ) → IsNullAt input c depth e → ⊥
 no_null input c depth h e null = let wrong : false ≡ true = sym h ∙ null.0 in cc
@@ -80,7 +75,7 @@ list_openings = (
 pub in_indefinite_list : strictly.steps (0x9f ∷ 0x01 ∷ 0xff ∷ []) (lists_of_strings false) (shape_place 0) 1 1 (mark_with None) None 1 (mark_with None)
     × strictly.closes (0x9f ∷ 0x01 ∷ 0xff ∷ []) (lists_of_strings false) (shape_place 0) 1 2 (mark_with None) 3
 in_indefinite_list = (
-  steps_in_list strict (0x9f ∷ 0x01 ∷ 0xff ∷ []) (lists_of_strings false) (shape_place 0) tt 1 1 (mark_with None) (mark_with None) (inr (refl, omega arith, refl, refl)),
+  steps_in_list strict (0x9f ∷ 0x01 ∷ 0xff ∷ []) (lists_of_strings false) (shape_place 0) tt 1 1 (mark_with None) (mark_with None) (omega arith, inr (refl, refl, refl)),
   closes_list strict (0x9f ∷ 0x01 ∷ 0xff ∷ []) (lists_of_strings false) (shape_place 0) tt 1 2 (mark_with None) 3 (inr (refl, refl, refl)) refl,
 )
 
@@ -88,24 +83,27 @@ in_indefinite_list = (
 pub in_definite_list : strictly.steps (0x81 ∷ 0x01 ∷ []) (lists_of_strings false) (shape_place 0) 1 1 (mark_with (Some 1)) None 1 (mark_with (Some 0))
     × strictly.closes (0x81 ∷ 0x01 ∷ []) (lists_of_strings false) (shape_place 0) 1 2 (mark_with (Some 0)) 2
 in_definite_list = (
-  steps_in_list strict (0x81 ∷ 0x01 ∷ []) (lists_of_strings false) (shape_place 0) tt 1 1 (mark_with (Some 1)) (mark_with (Some 0)) (inl (0, refl, refl)),
+  steps_in_list strict (0x81 ∷ 0x01 ∷ []) (lists_of_strings false) (shape_place 0) tt 1 1 (mark_with (Some 1)) (mark_with (Some 0)) (omega arith, inl (0, refl, refl)),
   closes_list strict (0x81 ∷ 0x01 ∷ []) (lists_of_strings false) (shape_place 0) tt 1 2 (mark_with (Some 0)) 2 (inl (refl, refl)) refl,
 )
 
--- an element that is announced is due, also where the input ends: 82 01
-pub missing_element : strictly.steps (0x82 ∷ 0x01 ∷ []) (lists_of_strings false) (shape_place 0) 1 2 (mark_with (Some 1)) None 2 (mark_with (Some 0))
-    × ClosesNot (0x82 ∷ 0x01 ∷ []) (lists_of_strings false) 0 1 2 (mark_with (Some 1))
-missing_element =
-    let step = steps_in_list strict (0x82 ∷ 0x01 ∷ []) (lists_of_strings false) (shape_place 0) tt 1 2 (mark_with (Some 1)) (mark_with (Some 0)) (inl (0, refl, refl)) in
-    (step, goes_on (0x82 ∷ 0x01 ∷ []) (lists_of_strings false) 0 1 2 (mark_with (Some 1)) None 2 (mark_with (Some 0)) step)
+-- an element that is announced isn't due where the input ends: 82 01
+pub missing_element : StepsNot (0x82 ∷ 0x01 ∷ []) (lists_of_strings false) 0 1 2 (mark_with (Some 1)) × ClosesNot (0x82 ∷ 0x01 ∷ []) (lists_of_strings false) 0 1 2 (mark_with (Some 1))
+missing_element = list_is_stuck strict (0x82 ∷ 0x01 ∷ []) (lists_of_strings false) (shape_place 0) tt 1 2 (mark_with (Some 1)) none (λ e over follows. shut e over)
+  where
+    none : (n : Mark) → HasEntry (0x82 ∷ 0x01 ∷ []) 2 (mark_with (Some 1)) n → ⊥
+    none n (within, next) = omega arith
+
+    shut : (e : ℕ) → IsOver (0x82 ∷ 0x01 ∷ []) 2 (mark_with (Some 1)) e → ⊥
+    shut e (inl (due, at)) = cc
+    shut e (inr (none, break, at)) = cc
 
 -- in a list of indefinite length nothing comes where the input ends: 9f 01
 pub missing_break : StepsNot (0x9f ∷ 0x01 ∷ []) (lists_of_strings false) 0 1 2 (mark_with None) × ClosesNot (0x9f ∷ 0x01 ∷ []) (lists_of_strings false) 0 1 2 (mark_with None)
 missing_break = list_is_stuck strict (0x9f ∷ 0x01 ∷ []) (lists_of_strings false) (shape_place 0) tt 1 2 (mark_with None) none (λ e over follows. shut e over)
   where
     none : (n : Mark) → HasEntry (0x9f ∷ 0x01 ∷ []) 2 (mark_with None) n → ⊥
-    none n (inl (count, due, mark)) = cc
-    none n (inr (due, within, more, mark)) = omega arith
+    none n (within, next) = omega arith
 
     shut : (e : ℕ) → IsOver (0x9f ∷ 0x01 ∷ []) 2 (mark_with None) e → ⊥
     shut e (inl (due, at)) = cc
@@ -119,7 +117,7 @@ pub null_is_dropped : strictly.steps (0xa2 ∷ 0x61 ∷ 0x7a ∷ 0xf6 ∷ 0x61 �
 unfolding smithy_cbor_codec_on_literals
 null_is_dropped = (
   steps_to_member strict (0xa2 ∷ 0x61 ∷ 0x7a ∷ 0xf6 ∷ 0x61 ∷ 0x61 ∷ 0x01 ∷ []) one_long (shape_place 0) tt 1 1 (mark_with (Some 2)) (codes "a") 6 (mark_with (Some 0))
-      (1, 4, mark_with (Some 1), (codes "z", 3, 4, mark_with (Some 1), (inl (1, refl, refl), (z_key.item, (omega arith, z_key.is), refl)), inl (refl, (refl, refl, tt)), (refl, refl)), (inl (0, refl, refl), (a_key.item, (omega arith, a_key.is), refl)), (refl, λ e null. absurd (no_null (0xa2 ∷ 0x61 ∷ 0x7a ∷ 0xf6 ∷ 0x61 ∷ 0x61 ∷ 0x01 ∷ []) 6 1 refl e null))),
+      (1, 4, mark_with (Some 1), (codes "z", 3, 4, mark_with (Some 1), ((omega arith, inl (1, refl, refl)), (z_key.item, (omega arith, z_key.is), refl)), inl (refl, (refl, refl, tt)), (refl, refl)), ((omega arith, inl (0, refl, refl)), (a_key.item, (omega arith, a_key.is), refl)), (refl, λ e null. absurd (no_null (0xa2 ∷ 0x61 ∷ 0x7a ∷ 0xf6 ∷ 0x61 ∷ 0x61 ∷ 0x01 ∷ []) 6 1 refl e null))),
   closes_members strict (0xa2 ∷ 0x61 ∷ 0x7a ∷ 0xf6 ∷ 0x61 ∷ 0x61 ∷ 0x01 ∷ []) one_long (shape_place 0) tt 1 7 (mark_with (Some 0)) 7 (0, 7, mark_with (Some 0), (refl, refl), inl (refl, refl)) refl,
 )
 
@@ -129,9 +127,9 @@ pub null_before_the_end : strictly.closes (0xa1 ∷ 0x61 ∷ 0x61 ∷ 0xf6 ∷ [
 unfolding smithy_cbor_codec_on_literals
 null_before_the_end = (
   closes_members strict (0xa1 ∷ 0x61 ∷ 0x61 ∷ 0xf6 ∷ []) one_long (shape_place 0) tt 1 1 (mark_with (Some 1)) 4
-      (1, 4, mark_with (Some 0), (codes "a", 3, 4, mark_with (Some 0), (inl (0, refl, refl), (a_key.item, (omega arith, a_key.is), refl)), inl (refl, (refl, refl, tt)), (refl, refl)), inl (refl, refl)) refl,
+      (1, 4, mark_with (Some 0), (codes "a", 3, 4, mark_with (Some 0), ((omega arith, inl (0, refl, refl)), (a_key.item, (omega arith, a_key.is), refl)), inl (refl, (refl, refl, tt)), (refl, refl)), inl (refl, refl)) refl,
   closes_members strict (0xbf ∷ 0x61 ∷ 0x61 ∷ 0xf6 ∷ 0xff ∷ []) one_long (shape_place 0) tt 1 1 (mark_with None) 5
-      (1, 4, mark_with None, (codes "a", 3, 4, mark_with None, (inr (refl, omega arith, refl, refl), (a_key.item, (omega arith, a_key.is), refl)), inl (refl, (refl, refl, tt)), (refl, refl)), inr (refl, refl, refl)) refl,
+      (1, 4, mark_with None, (codes "a", 3, 4, mark_with None, ((omega arith, inr (refl, refl, refl)), (a_key.item, (omega arith, a_key.is), refl)), inl (refl, (refl, refl, tt)), (refl, refl)), inr (refl, refl, refl)) refl,
 )
 
 -- undefined is no null: {"a": undefined} goes on to its value
@@ -139,7 +137,7 @@ pub undefined_is_due : strictly.steps (0xa1 ∷ 0x61 ∷ 0x61 ∷ 0xf7 ∷ []) o
 unfolding smithy_cbor_codec_on_literals
 undefined_is_due =
     steps_to_member strict (0xa1 ∷ 0x61 ∷ 0x61 ∷ 0xf7 ∷ []) one_long (shape_place 0) tt 1 1 (mark_with (Some 1)) (codes "a") 3 (mark_with (Some 0))
-    (0, 1, mark_with (Some 1), (refl, refl), (inl (0, refl, refl), (a_key.item, (omega arith, a_key.is), refl)), (refl, λ e null. absurd (no_null (0xa1 ∷ 0x61 ∷ 0x61 ∷ 0xf7 ∷ []) 3 1 refl e null)))
+    (0, 1, mark_with (Some 1), (refl, refl), ((omega arith, inl (0, refl, refl)), (a_key.item, (omega arith, a_key.is), refl)), (refl, λ e null. absurd (no_null (0xa1 ∷ 0x61 ∷ 0x61 ∷ 0xf7 ∷ []) 3 1 refl e null)))
 
 -- a null under a key that isn't UTF-8 isn't dropped: a1 61 ff f6
 pub null_without_key : StepsNot (0xa1 ∷ 0x61 ∷ 0xff ∷ 0xf6 ∷ []) one_long 0 1 1 (mark_with (Some 1)) × ClosesNot (0xa1 ∷ 0x61 ∷ 0xff ∷ 0xf6 ∷ []) one_long 0 1 1 (mark_with (Some 1))
@@ -178,8 +176,7 @@ missing_break_of_map =
     )) (λ is at_end rest some. let wrong : ◌≡◌ {A = ℕ} 4 0 = rest.1 refl in omega arith)
   where
     none : (n : Mark) → HasEntry (0xbf ∷ 0x61 ∷ 0x61 ∷ 0x01 ∷ []) 4 (mark_with None) n → ⊥
-    none n (inl (count, due, mark)) = cc
-    none n (inr (due, within, more, mark)) = omega arith
+    none n (within, next) = omega arith
 
     going : (e : ℕ) → IsOver (0xbf ∷ 0x61 ∷ 0x61 ∷ 0x01 ∷ []) 4 (mark_with None) e → ⊥
     going e (inl (due, at)) = cc
@@ -198,8 +195,8 @@ mark_is_passed_over =
       1,
       9,
       mark_with (Some 1),
-      (codes "__type", 8, 9, mark_with (Some 1), (inl (1, refl, refl), (type_key.item, (omega arith, type_key.is), refl)), inr (refl, record { found = unsigned 1; stands = (omega arith, (small 1 (omega arith)).is); follows = tt }), (refl, refl)),
-      (inl (0, refl, refl), (a_key.item, (omega arith, a_key.is), refl)),
+      (codes "__type", 8, 9, mark_with (Some 1), ((omega arith, inl (1, refl, refl)), (type_key.item, (omega arith, type_key.is), refl)), inr (refl, record { found = unsigned 1; stands = (omega arith, (small 1 (omega arith)).is); follows = tt }), (refl, refl)),
+      ((omega arith, inl (0, refl, refl)), (a_key.item, (omega arith, a_key.is), refl)),
       (refl, λ e null. absurd (no_null (0xa2 ∷ 0x66 ∷ (codes "__type" ++ 0x01 ∷ 0x61 ∷ 0x61 ∷ 0x01 ∷ [])) 11 1 refl e null)),
     )
 
@@ -210,7 +207,7 @@ pub in_definite_map : strictly.steps (0xa1 ∷ 0x61 ∷ 0x61 ∷ 0xf6 ∷ []) (m
     × strictly.closes (0xa1 ∷ 0x61 ∷ 0x61 ∷ 0xf6 ∷ []) (map_of_longs true) (shape_place 0) 1 4 (mark_with (Some 0)) 4
 unfolding smithy_cbor_codec_on_literals
 in_definite_map = (
-  steps_in_map strict (0xa1 ∷ 0x61 ∷ 0x61 ∷ 0xf6 ∷ []) (map_of_longs true) (shape_place 0) tt 1 1 (mark_with (Some 1)) (codes "a") 3 (mark_with (Some 0)) (inl (0, refl, refl), (a_key.item, (omega arith, a_key.is), refl)),
+  steps_in_map strict (0xa1 ∷ 0x61 ∷ 0x61 ∷ 0xf6 ∷ []) (map_of_longs true) (shape_place 0) tt 1 1 (mark_with (Some 1)) (codes "a") 3 (mark_with (Some 0)) ((omega arith, inl (0, refl, refl)), (a_key.item, (omega arith, a_key.is), refl)),
   closes_map strict (0xa1 ∷ 0x61 ∷ 0x61 ∷ 0xf6 ∷ []) (map_of_longs true) (shape_place 0) tt 1 4 (mark_with (Some 0)) 4 (inl (refl, refl)) refl,
 )
 

@@ -1,5 +1,5 @@
 -- Where CBOR lies in an input: the framing of CBOR, and the relations of reading that follow.
-use Rattle.std.specs.Prelude.{◌≡◌, ◌⊎◌, ◌<◌, ◌+◌, ◌-◌, ◌==◌, ℕ, zero, suc, length, drop, List, [], ◌∷◌, Option, Some, None, Bool, true, false, unwrap_or, if◌then◌else◌}
+use Rattle.std.specs.Prelude.{◌≡◌, ◌⊎◌, ◌<◌, ◌-◌, ◌==◌, ℕ, zero, suc, length, drop, List, [], ◌∷◌, Option, Some, None, Bool, true, false, if◌then◌else◌}
 use Rattle.smithy_schema.specs.Reading.{Relations, Reader, reader, Mark}
 use Rattle.cbor_item.specs.Item.{Item}
 use Rattle.cbor_item.specs.WellFormed.{IsItemAt, break}
@@ -46,13 +46,13 @@ mark_with due = record { entered = false; at_end = false; due = due }
 abbrev pub end_mark : Mark
 end_mark = record { entered = false; at_end = true; due = None }
 
--- another entry comes, and behind its key and value the container has the mark n: one entry that was announced, or whatever
--- begins with a byte other than a break
+-- Another entry comes, and after its key and value the container has the mark n. The input isn't at its end, and the entry was
+-- announced, or begins with a byte other than a break.
 abbrev pub HasEntry : List ℕ → ℕ → Mark → Mark → Type 0
 HasEntry input b m n =
-    ((count : ℕ) × (m.due ≡ Some (suc count)) × (n ≡ mark_with (Some count)))
-    ⊎ ((m.due ≡ None) × (b < length input) × (begins_with break (drop b input) ≡ false)
-    × (n ≡ mark_with None))
+    (b < length input)
+    × (((count : ℕ) × (m.due ≡ Some (suc count)) × (n ≡ mark_with (Some count)))
+    ⊎ ((m.due ≡ None) × (begins_with break (drop b input) ≡ false) × (n ≡ mark_with None)))
 
 -- the entries are over, and the container ends at e: all that were announced have come, or a break comes
 abbrev pub IsOver : List ℕ → ℕ → Mark → ℕ → Type 0
@@ -75,7 +75,7 @@ Entry as_object input b m key c n =
 abbrev pub IsScalarAt : List ℕ → ℕ → Item → ℕ → ℕ → Type 0
 IsScalarAt input depth x a e = (node_of x ≡ leaf x) × IsItemAt x input a e × Follows depth input e
 
--- A null is one byte. What is left of a container is counted in bytes and in entries that are due.
+-- A null is one byte. Each entry takes a byte at least, so what is left of a container is counted in bytes.
 abbrev pub cbor_frames : Bool → Frames Item
 cbor_frames strict = record {
   null = λ input depth a e. (begins_with null_byte (drop a input) ≡ true) × (e ≡ suc a) × Follows (end_depth strict depth) input e;
@@ -86,7 +86,7 @@ cbor_frames strict = record {
   follows = λ input depth e. FollowsInside strict depth input e;
   is_over = λ input a e. RestIsEmpty strict input a × (e ≡ a);
   over_mark = end_mark;
-  left = λ input b m. length input - b + unwrap_or m.due 0;
+  left = λ input b m. length input - b;
   begins_null = λ input a. begins_with null_byte (drop a input);
   openers = cbor_openers;
 }

@@ -111,21 +111,20 @@ pub fn null_end(input: &[u8], at: usize, depth: usize) -> Option<usize>
 }
 
 /// What comes next in the container inside of which the offset lies: another entry, with how many are due behind it, or the end.
+/// An entry takes a byte, so at the end of the input none comes, however many are due.
 pub fn entry_or_end(input: &[u8], at: usize, due: Option<u64>) -> Option<EntryOrEnd>
     requires { at ≤ length input.now }
     ensures { IsEntryOrEnd input.now at due result }
 {
+    if let Some(0) = due {
+        return Some(EntryOrEnd::End(at));
+    }
+    if at == input.len() {
+        return None;
+    }
     match due {
-        Some(0) => Some(EntryOrEnd::End(at)),
         Some(count) => Some(EntryOrEnd::Entry(Some(count - 1))),
-        None => {
-            if at == input.len() {
-                return None;
-            }
-            if input[at] == BREAK {
-                return Some(EntryOrEnd::End(at + 1));
-            }
-            Some(EntryOrEnd::Entry(None))
-        }
+        None if input[at] == BREAK => Some(EntryOrEnd::End(at + 1)),
+        None => Some(EntryOrEnd::Entry(None)),
     }
 }

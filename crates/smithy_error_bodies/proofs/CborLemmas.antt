@@ -244,21 +244,25 @@ none_told due s input at wrong never_over = none
     none no_pairs last over = absurd (never_over last over)
     none (pair l w ps) last (n, d, f, entry, key, value, lie) = pair_wrong l w ps s (wrong l w d f key value)
 
+-- a pair begins in the input
+pair_inside : (s u : Said) (input : List ℕ) (at end : ℕ) → PairAt s u input at end → at < length input
+pair_inside s u input at end (k, v, c, key, value, can, made) = omega (arith, item_ahead k input at c key, key.0)
+
 -- ---- by a number
 
 pub counted_more : (n : ℕ) (s u : Said) (input : List ℕ) (at end : ℕ) → 0 < n → PairAt s u input at end → (r : Option Said) → Told (Some (n - 1)) u input end r → Told (Some n) s input at r
 counted_more zero s u input at end some stands r told = absurd (omega (arith, some))
 counted_more (suc n) s u input at end some stands r told =
     let less : suc n - 1 ≡ n = omega arith in
-    pair_told (Some (suc n)) (Some n) s u input at end stands (inl (n, refl, refl)) over only r (subst (λ (k : ℕ). Told (Some k) u input end r) less told)
+    pair_told (Some (suc n)) (Some n) s u input at end stands (pair_inside s u input at end stands, inl (n, refl, refl)) over only r (subst (λ (k : ℕ). Told (Some k) u input end r) less told)
   where
     over : (e : ℕ) → IsOver input at (mark_with (Some (suc n))) e → ⊥
     over e (inl h) = cc
     over e (inr h) = cc
 
     only : (m : _) → HasEntry input at (mark_with (Some (suc n))) m → m ≡ mark_with (Some n)
-    only m (inl (count, due, is)) = let same : count ≡ n = cc in is ∙ ap (λ k. mark_with (Some k)) same
-    only m (inr h) = absurd (let e = h.0 in cc)
+    only m (some, inl (count, due, is)) = let same : count ≡ n = cc in is ∙ ap (λ k. mark_with (Some k)) same
+    only m (some, inr h) = absurd (let e = h.0 in cc)
 
 pub counted_wrong : (n : ℕ) (s : Said) (input : List ℕ) (at : ℕ) → 0 < n → NoPair input at → Told (Some n) s input at None
 counted_wrong zero s input at some wrong = absurd (omega (arith, some))
@@ -283,21 +287,18 @@ no_break input at is kind (e, same, fault) =
 
 pub open_more : (s u : Said) (input : List ℕ) (at end : ℕ) → PairAt s u input at end → (r : Option Said) → Told None u input end r → Told None s input at r
 open_more s u input at end stands r told =
-    pair_told None None s u input at end stands (inr (refl, inside, none, refl)) over only r told
+    pair_told None None s u input at end stands (pair_inside s u input at end stands, inr (refl, none, refl)) over only r told
   where
     none : begins_with break (drop at input) ≡ false
     none = no_break_at stands.0 input at stands.2 stands.3
-
-    inside : at < length input
-    inside = omega (arith, item_ahead stands.0 input at stands.2 stands.3, stands.3.0)
 
     over : (e : ℕ) → IsOver input at (mark_with None) e → ⊥
     over e (inl h) = cc
     over e (inr h) = let none : begins_with break (drop at input) ≡ false = no_break_at stands.0 input at stands.2 stands.3 in cc
 
     only : (m : _) → HasEntry input at (mark_with None) m → m ≡ mark_with None
-    only m (inl (count, due, is)) = absurd (cc)
-    only m (inr h) = h.3
+    only m (some, inl (count, due, is)) = absurd (cc)
+    only m (some, inr h) = h.2
 
 pub open_wrong : (s : Said) (input : List ℕ) (at : ℕ) (kind : DecodeKind) → NoPair input at → IsKindOf (IsHeadFault IsBreakHead input at) kind → Told None s input at None
 open_wrong s input at kind wrong fault = none_told None s input at wrong over

@@ -43,24 +43,26 @@ EndsAfter count i m l e =
 
 -- the entries up to the end of a container are one more with another entry in front of them
 pub ends_after_entry : (count : ℕ) (i : List ℕ) (b l e : ℕ) (m n : Mark) → HasEntry i b m n → EndsAfter count i n l e → EndsAfter (suc count) i m l e
-ends_after_entry count i b l e m n (inl h) (inl k) =
+ends_after_entry count i b l e m n (some, inl h) (inl k) =
     let left : n.due ≡ Some h.0 = ap (λ (x : Mark). x.due) h.2 in
     let same : h.0 ≡ count = same_due n.due h.0 count left k.0 in
     inl (h.1 ∙ ap (λ c. Some (suc c)) same, k.1)
-ends_after_entry count i b l e m n (inl h) (inr k) =
+ends_after_entry count i b l e m n (some, inl h) (inr k) =
     let left : n.due ≡ Some h.0 = ap (λ (x : Mark). x.due) h.2 in absurd (no_due n.due h.0 left k.0)
-ends_after_entry count i b l e m n (inr h) (inl k) =
-    let left : n.due ≡ None = ap (λ (x : Mark). x.due) h.3 in absurd (no_due n.due count k.0 left)
-ends_after_entry count i b l e m n (inr h) (inr k) = inr (h.0, k.1, k.2)
+ends_after_entry count i b l e m n (some, inr h) (inl k) =
+    let left : n.due ≡ None = ap (λ (x : Mark). x.due) h.2 in absurd (no_due n.due count k.0 left)
+ends_after_entry count i b l e m n (some, inr h) (inr k) = inr (h.0, k.1, k.2)
 
 -- where entries are left up to the end of a container and an item stands first, an entry comes, and one entry less is left behind
 -- it
 pub entry_of_ends : (count : ℕ) (i : List ℕ) (b f l e : ℕ) (m : Mark) (x : Item) → IsItemAt x i b f → EndsAfter (suc count) i m l e
     → (n : Mark) × HasEntry i b m n × EndsAfter count i n l e
-entry_of_ends count i b f l e m x at (inl h) = (mark_with (Some count), inl (count, h.0, refl), inl (refl, h.1))
-entry_of_ends count i b f l e m x at (inr h) =
-    let ahead = item_ahead x i b f at in
-    (mark_with None, inr (h.0, omega (arith, ahead, at.0), no_break_at x i b f at, refl), inr (refl, h.1, h.2))
+entry_of_ends count i b f l e m x at ends =
+    by (omega (arith, item_ahead x i b f at, at.0)) ends
+  where
+    by : b < length i → EndsAfter (suc count) i m l e → (n : Mark) × HasEntry i b m n × EndsAfter count i n l e
+    by some (inl h) = (mark_with (Some count), (some, inl (count, h.0, refl)), inl (refl, h.1))
+    by some (inr h) = (mark_with None, (some, inr (h.0, no_break_at x i b f at, refl)), inr (refl, h.1, h.2))
 
 -- ---- from places to bytes
 

@@ -1,5 +1,5 @@
 -- How a container goes on is determined, entry by entry, and where it goes on it doesn't end.
-use Rattle.std.specs.Prelude.{◌≡◌, ◌<◌, ◌≤◌, ◌⊎◌, ℕ, suc, length, drop, List, Option, Some, None, Bool, true, false, unwrap_or}
+use Rattle.std.specs.Prelude.{◌≡◌, ◌≤◌, ℕ, suc, drop, List, Option, Some, None, Bool, true, false}
 use Rattle.std.proofs.Common.{sym, ◌∙◌, ap, arith, inl, inr}
 use Rattle.smithy_schema.specs.Reading.{Mark}
 use Rattle.smithy_shapes.specs.Lemmas.Options.{same_some}
@@ -17,13 +17,13 @@ same_due due n k h j = same_some n k (sym h ∙ j)
 
 -- what comes next is determined
 pub same_entry : (i : List ℕ) (b : ℕ) (m n n' : Mark) → HasEntry i b m n → HasEntry i b m n' → n ≡ n'
-same_entry i b m n n' (inl h) (inl k) =
+same_entry i b m n n' (some, inl h) (left, inl k) =
     let same : suc h.0 ≡ suc k.0 = same_due m.due (suc h.0) (suc k.0) h.1 k.1 in
     let count : h.0 ≡ k.0 = omega (arith, same) in
     h.2 ∙ ap (λ x. mark_with (Some x)) count ∙ sym k.2
-same_entry i b m n n' (inl h) (inr k) = absurd (no_due m.due (suc h.0) h.1 k.0)
-same_entry i b m n n' (inr h) (inl k) = absurd (no_due m.due (suc k.0) k.1 h.0)
-same_entry i b m n n' (inr h) (inr k) = h.3 ∙ sym k.3
+same_entry i b m n n' (some, inl h) (left, inr k) = absurd (no_due m.due (suc h.0) h.1 k.0)
+same_entry i b m n n' (some, inr h) (left, inl k) = absurd (no_due m.due (suc k.0) k.1 h.0)
+same_entry i b m n n' (some, inr h) (left, inr k) = h.2 ∙ sym k.2
 
 pub same_over : (i : List ℕ) (b : ℕ) (m : Mark) (e f : ℕ) → IsOver i b m e → IsOver i b m f → e ≡ f
 same_over i b m e f (inl h) (inl k) = h.1 ∙ sym k.1
@@ -36,24 +36,13 @@ not_both b h k = cc
 
 -- an entry and the end exclude one another
 pub entry_or_over : (i : List ℕ) (b : ℕ) (m n : Mark) (e : ℕ) → HasEntry i b m n → IsOver i b m e → ⊥
-entry_or_over i b m n e (inl h) (inl k) =
+entry_or_over i b m n e (some, inl h) (inl k) =
     let same : suc h.0 ≡ 0 = same_due m.due (suc h.0) 0 h.1 k.0 in omega (arith, same)
-entry_or_over i b m n e (inl h) (inr k) = no_due m.due (suc h.0) h.1 k.0
-entry_or_over i b m n e (inr h) (inl k) = no_due m.due 0 k.0 h.0
-entry_or_over i b m n e (inr h) (inr k) = not_both (begins_with break (drop b i)) h.2 k.1
+entry_or_over i b m n e (some, inl h) (inr k) = no_due m.due (suc h.0) h.1 k.0
+entry_or_over i b m n e (some, inr h) (inl k) = no_due m.due 0 k.0 h.0
+entry_or_over i b m n e (some, inr h) (inr k) = not_both (begins_with break (drop b i)) h.1 k.1
 
 -- an end is not before its start
 pub over_ahead : (i : List ℕ) (b : ℕ) (m : Mark) (e : ℕ) → IsOver i b m e → (b ≤ e) × (e ≤ suc b)
 over_ahead i b m e (inl h) = (omega (arith, h.1), omega (arith, h.1))
 over_ahead i b m e (inr h) = (omega (arith, h.2), omega (arith, h.2))
-
--- no more are due behind an entry than before it
-pub entry_due : (i : List ℕ) (b : ℕ) (m n : Mark) → HasEntry i b m n → unwrap_or n.due 0 ≤ unwrap_or m.due 0
-entry_due i b m n (inl h) = rw (h.1, h.2) (omega arith)
-entry_due i b m n (inr h) = rw (h.0, h.3) (omega arith)
-
--- behind an entry fewer entries are due than before it, or where their number isn't told, some of the input is left
-pub entry_falls : (i : List ℕ) (b : ℕ) (m n : Mark) → HasEntry i b m n
-    → (unwrap_or n.due 0 < unwrap_or m.due 0) ⊎ ((unwrap_or n.due 0 ≤ unwrap_or m.due 0) × (b < length i))
-entry_falls i b m n (inl h) = inl (rw (h.1, h.2) (omega arith))
-entry_falls i b m n (inr h) = inr (rw (h.0, h.3) (omega arith), h.1)

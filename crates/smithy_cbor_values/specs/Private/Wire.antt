@@ -1,5 +1,5 @@
 -- CBOR is a wire: what is determined in its framing, how values begin, and that positions rise.
-use Rattle.std.specs.Prelude.{◌≡◌, ◌⊎◌, ◌<◌, ◌≤◌, ◌+◌, ◌-◌, ℕ, suc, length, drop, List, [], ◌∷◌, Option, Some, None, unwrap_or, Bool, true, false, refl}
+use Rattle.std.specs.Prelude.{◌≡◌, ◌⊎◌, ◌<◌, ◌≤◌, ◌-◌, ℕ, suc, length, drop, List, [], ◌∷◌, Option, Some, None, Bool, true, false, refl}
 use Rattle.std.proofs.Common.{sym, ◌∙◌, ap, arith, inl, inr}
 use Rattle.std.proofs.lemmas.List.{length-drop}
 use Rattle.smithy_schema.specs.Reading.{Mark, IsBehind as IsPassed}
@@ -9,7 +9,7 @@ use Rattle.smithy_cbor_values.specs.Standing.{null_byte, begins_with, mark_with,
 use Rattle.smithy_cbor_values.specs.Settings.{Settings}
 use Rattle.smithy_cbor_values.specs.Private.ItemPlaces.{item_ahead, one_item}
 use Rattle.smithy_cbor_values.specs.Private.FirstBytes.{byte_within}
-use Rattle.smithy_cbor_values.specs.Private.Entries.{same_entry as same_next, same_over, entry_or_over, over_ahead, entry_due, entry_falls}
+use Rattle.smithy_cbor_values.specs.Private.Entries.{same_entry as same_next, same_over, entry_or_over, over_ahead}
 use Rattle.smithy_cbor_values.specs.Private.ContainerBytes.{same_opens_at, opens_within, inside_within}
 use Rattle.smithy_cbor_values.specs.Private.OpenersAtPlaces.{openers_fall, opens_adds}
 use Rattle.smithy_wire.specs.Node.{Form, as_array, as_object}
@@ -36,8 +36,8 @@ no_mark : (due : Option ℕ) (m : Mark) → m ≡ mark_with due → m ≡ end_ma
 no_mark due m h k = let clash = ap (λ (x : Mark). x.at_end) (sym h ∙ k) in cc
 
 next_inside : (i : List ℕ) (b : ℕ) (m n : Mark) → HasEntry i b m n → n ≡ end_mark → ⊥
-next_inside i b m n (inl h) is = no_mark (Some h.0) n h.2 is
-next_inside i b m n (inr h) is = no_mark None n h.3 is
+next_inside i b m n (some, inl h) is = no_mark (Some h.0) n h.2 is
+next_inside i b m n (some, inr h) is = no_mark None n h.2 is
 
 -- ---- positions rise
 
@@ -45,30 +45,25 @@ entry_ahead : (s : Form) (i : List ℕ) (b : ℕ) (m : Mark) (k : Option Item) (
 entry_ahead as_array i b m k c n h = omega (arith, h.1)
 entry_ahead as_object i b m k c n h = omega (arith, item_ahead h.1.0 i b c h.1.1)
 
-falls_in_array : (i : List ℕ) (b c e more less : ℕ) → c ≡ b → IsPassed i c e → (less < more) ⊎ ((less ≤ more) × (b < length i))
-    → length i - e + less < length i - b + more
-falls_in_array i b c e more less at (inl ahead, within) (inl fewer) = omega (arith, at, ahead, within, fewer)
-falls_in_array i b c e more less at (inl ahead, within) (inr same) = omega (arith, at, ahead, within, same.0, same.1)
-falls_in_array i b c e more less at (inr over, within) (inl fewer) = omega (arith, at, over.0, within, fewer)
-falls_in_array i b c e more less at (inr over, within) (inr same) = absurd (let x : c ≡ e = over.0 in let y : e ≡ length i = over.1 in omega (arith, same.1, at, x, y))
-
 up : (i : List ℕ) (c e : ℕ) → IsPassed i c e → (c ≤ e) × (e ≤ length i)
 up i c e (inl h, within) = (omega (arith, h), within)
 up i c e (inr h, within) = (omega (arith, h.0), within)
 
-falls : (n b c e more less : ℕ) → b < c → c ≤ e → e ≤ n → less ≤ more → n - e + less < n - b + more
-falls n b c e more less ahead up within fewer = omega (arith, ahead, up, within, fewer)
+-- an element has a byte of its own
+passed_element : (i : List ℕ) (b c e : ℕ) → c ≡ b → b < length i → IsPassed i c e → b < e
+passed_element i b c e at some (inl ahead, within) = omega (arith, at, ahead)
+passed_element i b c e at some (inr over, within) = let x : c ≡ e = over.0 in let y : e ≡ length i = over.1 in omega (arith, some, x, y)
 
-nearer : (s : Form) (i : List ℕ) (b : ℕ) (m : Mark) (k : Option Item) (c e : ℕ) (n : Mark) → Entry s i b m k c n → IsPassed i c e
-    → length i - e + unwrap_or n.due 0 < length i - b + unwrap_or m.due 0
-nearer as_array i b m k c e n h at = falls_in_array i b c e (unwrap_or m.due 0) (unwrap_or n.due 0) h.1 at (entry_falls i b m n h.2)
-nearer as_object i b m k c e n h at =
-    let u = up i c e at in
-    falls (length i) b c e (unwrap_or m.due 0) (unwrap_or n.due 0) (item_ahead h.1.0 i b c h.1.1) u.0 u.1 (entry_due i b m n h.0)
+-- and an entry of a map has its key
+passed_entry : (s : Form) (i : List ℕ) (b : ℕ) (m : Mark) (k : Option Item) (c e : ℕ) (n : Mark) → Entry s i b m k c n → IsPassed i c e → b < e
+passed_entry as_array i b m k c e n h at = passed_element i b c e h.1 h.2.0 at
+passed_entry as_object i b m k c e n h at = omega (arith, item_ahead h.1.0 i b c h.1.1, up i c e at)
 
-less_in : (s : Form) (i : List ℕ) (b : ℕ) (m : Mark) (k : Option Item) (c : ℕ) (n : Mark) → Entry s i b m k c n
-    → length i - c + unwrap_or n.due 0 ≤ length i - b + unwrap_or m.due 0
-less_in s i b m k c n h = omega (arith, entry_ahead s i b m k c n h, entry_due i b m n (entry_next s i b m k c n h))
+nearer : (s : Form) (i : List ℕ) (b : ℕ) (m : Mark) (k : Option Item) (c e : ℕ) (n : Mark) → Entry s i b m k c n → IsPassed i c e → length i - e < length i - b
+nearer s i b m k c e n h at = omega (arith, passed_entry s i b m k c e n h at, at.1)
+
+less_in : (s : Form) (i : List ℕ) (b : ℕ) (m : Mark) (k : Option Item) (c : ℕ) (n : Mark) → Entry s i b m k c n → length i - c ≤ length i - b
+less_in s i b m k c n h = omega (arith, entry_ahead s i b m k c n h)
 
 over_within : (i : List ℕ) (b : ℕ) (m : Mark) (e : ℕ) → b ≤ length i → IsOver i b m e → e ≤ length i
 over_within i b m e low (inl h) = omega (arith, low, h.1)
@@ -84,8 +79,7 @@ pub nothing_left : (i : List ℕ) (a : ℕ) → a ≡ length i → drop a i ≡ 
 nothing_left i a h = no_length (drop a i) (omega (arith, length-drop a i, h))
 
 no_entry : (i : List ℕ) (b : ℕ) (n : Mark) → b ≡ length i → HasEntry i b end_mark n → ⊥
-no_entry i b n over (inl h) = let clash : ◌≡◌ {A = Option ℕ} None (Some (suc h.0)) = h.1 in cc
-no_entry i b n over (inr h) = omega (arith, over, h.1)
+no_entry i b n over h = omega (arith, over, h.0)
 
 no_break : (s : List ℕ) → s ≡ [] → begins_with break s ≡ true → ⊥
 no_break [] none h = cc
