@@ -2,7 +2,7 @@
    wanted wire, of the value that an input spells, into the caller's memory. docs/TABLES.md says what a table is.
 
    Every call is proved safe for each table, root and input, and its number is that of the program, or 24, or 25 where there is no
-   table: docs/PROVED.md says what each means but the last. What no prover sees, and a caller of the functions at the end owes:
+   table: docs/PROGRAMS.md says what each means but the last. What no prover sees, and a caller of the functions at the end owes:
    - A pointer is not null, even where its length is 0, and its length is that of memory which the call may read, or write if it
      isn't const. What is written overlaps nothing else that the call is given. The functions with `static inline` see to null.
    - A `smithy_table` is changed by these functions alone. One call at a time uses it, and none after it was freed. Threads may
