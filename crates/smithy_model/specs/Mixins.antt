@@ -1,5 +1,5 @@
 -- What shapes take over from their mixins (Smithy 2.0, "Mixins").
-use Rattle.std.specs.Prelude.{◌≡◌, ◌==◌, ℕ, List, [], ◌∷◌, ◌++◌, length, MatchBool, ◌||◌, ◌&&◌, not, Bool, true, false, Option, Some, None, if◌then◌else◌, slice_get, unwrap_or, bytes_eq, map as list_map}
+use Rattle.std.specs.Prelude.{◌≡◌, ◌==◌, ℕ, List, [], ◌∷◌, length, MatchBool, ◌||◌, ◌&&◌, not, Bool, true, false, Option, Some, None, if◌then◌else◌, slice_get, unwrap_or, bytes_eq, map as list_map}
 use Rattle.std.specs.List.{AllZip, fold, list_any}
 use Rattle.std.specs.Option.{option_or}
 use Rattle.smithy_model.specs.Model.{Member, Kind, structure, union, Shape}
@@ -61,13 +61,26 @@ abbrev pub nothing : Gathered
 nothing = record { members = []; agrees = true; is_sparse = false; time_format = None }
 
 -- with what one shape more has; of a trait that several have, the last counts
-abbrev pub with_shape : Gathered → Shape → Gathered
-with_shape g s = record {
-  members = fold with_member g.members (members_of s.kind);
-  agrees = g.agrees && agree g.members (members_of s.kind);
-  is_sparse = s.is_sparse || g.is_sparse;
-  time_format = option_or s.time_format g.time_format;
+abbrev pub with_parts : Gathered → Kind → Bool → Option (List ℕ) → Gathered
+with_parts g kind is_sparse time_format = record {
+  members = fold with_member g.members (members_of kind);
+  agrees = g.agrees && agree g.members (members_of kind);
+  is_sparse = is_sparse || g.is_sparse;
+  time_format = option_or time_format g.time_format;
 }
+
+abbrev pub with_shape : Gathered → Shape → Gathered
+with_shape g s = with_parts g s.kind s.is_sparse s.time_format
+
+-- a mixin hands on those of its traits that aren't local to it
+abbrev pub hands_on_sparse : Shape → Bool
+hands_on_sparse s = s.is_sparse && not s.has_local_sparse
+
+abbrev pub hands_on_time : Shape → Option (List ℕ)
+hands_on_time s = if s.has_local_time then None else s.time_format
+
+abbrev pub with_mixin : Gathered → Shape → Gathered
+with_mixin g s = with_parts g s.kind (hands_on_sparse s) (hands_on_time s)
 
 -- the shape with what was gathered for it
 abbrev pub with_gathered : Shape → Gathered → Shape
@@ -75,7 +88,7 @@ with_gathered own g = record own { kind = with_members own.kind g.members; is_sp
 
 -- what the mixins of a shape have, in their order, and then what it has itself
 abbrev pub gathered : Shape → List Shape → Gathered
-gathered own mixins = fold with_shape nothing (mixins ++ own ∷ [])
+gathered own mixins = with_shape (fold with_mixin nothing mixins) own
 
 -- the shape is this one with what its mixins have
 abbrev pub IsWith : Shape → List Shape → Shape → Type 0

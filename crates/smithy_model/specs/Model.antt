@@ -37,6 +37,9 @@ pub record Shape : Type 0 where
   pub is_sparse : Bool
   pub is_flattened : Bool
   pub time_format : Option (List ℕ)
+  -- it is a mixin whose trait sparse, or timestampFormat, is local
+  pub has_local_sparse : Bool
+  pub has_local_time : Bool
 
 -- what an operation refers to: the id of a shape, and its number in the model
 pub record Reference : Type 0 where
@@ -50,7 +53,8 @@ pub record Operation : Type 0 where
   pub output : Option Reference
   pub errors : List Reference
 
--- a model: shapes and operations in its order, whether its protocol has HTTP bindings, or is ec2Query, and whether it is a service-2.json
+-- a model: shapes and operations in its order, whether each of its protocols has HTTP bindings, or is ec2Query, and whether it is a
+-- service-2.json
 pub record Model : Type 0 where
   pub shapes : List Shape
   pub operations : List Operation

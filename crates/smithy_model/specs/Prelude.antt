@@ -18,7 +18,16 @@ scalar_names =
 
 -- a shape without traits
 abbrev pub plain : List ℕ → Kind → Shape
-plain id kind = record { id = id; kind = kind; mixins = []; is_sparse = false; is_flattened = false; time_format = None }
+plain id kind = record {
+  id = id;
+  kind = kind;
+  mixins = [];
+  is_sparse = false;
+  is_flattened = false;
+  time_format = None;
+  has_local_sparse = false;
+  has_local_time = false;
+}
 
 -- the kind of such a name
 abbrev pub kind_named : List ℕ → Kind

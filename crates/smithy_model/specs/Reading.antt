@@ -56,19 +56,31 @@ shapes_among form es = all_some (list_map (shape_in form) (filter (λ (e : Entry
 abbrev pub operations_among : Form → List Entry → Option (List Operation)
 operations_among form es = all_some (list_map (operation_in form) (filter (λ (e : Entry). is_operation form e.1) es))
 
--- a service among these has the trait
+-- a service among these has the trait of this protocol (Smithy 2.0, "Protocol traits")
 abbrev pub has_protocol : List ℕ → List Entry → Bool
 has_protocol name es = list_any (λ (e : Entry). has_type (codes "service") e.1 && has_trait name e.1) es
 
--- members may be bound to other parts of a message (Smithy 2.0, "HTTP bindings"): by the protocol
+-- a service has a protocol that binds members to other parts of a message than the body (Smithy 2.0, "HTTP bindings")
+abbrev pub has_rest : List Entry → Bool
+has_rest es = has_protocol (codes "aws.protocols#restJson1") es || has_protocol (codes "aws.protocols#restXml") es
+
+abbrev pub has_ec2 : List Entry → Bool
+has_ec2 es = has_protocol (codes "aws.protocols#ec2Query") es
+
+-- or another one that sends all members in the body
+abbrev pub has_rpc : List Entry → Bool
+has_rpc es =
+    has_protocol (codes "aws.protocols#awsJson1_0") es || has_protocol (codes "aws.protocols#awsJson1_1") es
+    || has_protocol (codes "aws.protocols#awsQuery") es || has_protocol (codes "smithy.protocols#rpcv2Cbor") es
+
+-- Bindings count: there is a protocol, and each one has them. A service-2.json is of the protocol that it names.
 abbrev pub has_http_bindings_in : Form → Json → List Entry → Bool
-has_http_bindings_in smithy root es =
-    has_protocol (codes "aws.protocols#restJson1") es || has_protocol (codes "aws.protocols#restXml") es
+has_http_bindings_in smithy root es = has_rest es && not (has_ec2 es || has_rpc es)
 has_http_bindings_in _ root es = bytes_eq (protocol_in root) (codes "rest-json") || bytes_eq (protocol_in root) (codes "rest-xml")
 
--- the protocol is ec2Query
+-- there is a protocol, and each one is ec2Query
 abbrev pub is_ec2_in : Form → Json → List Entry → Bool
-is_ec2_in smithy root es = has_protocol (codes "aws.protocols#ec2Query") es
+is_ec2_in smithy root es = has_ec2 es && not (has_rest es || has_rpc es)
 is_ec2_in _ root es = bytes_eq (protocol_in root) (codes "ec2")
 
 abbrev pub is_service_json : Form → Bool

@@ -1,8 +1,9 @@
 -- Shapes and operations, as a model's text has them (Smithy 2.0, "JSON AST").
-use Rattle.std.specs.Prelude.{ℕ, List, [], Bool, false, Option, Some, None, option_map, option_and_then, unwrap_or, if◌then◌else◌, codes, map as list_map}
+use Rattle.std.specs.Prelude.{ℕ, List, [], Bool, false, Option, Some, None, option_map, option_and_then, unwrap_or, if◌then◌else◌, codes, bytes_eq, map as list_map}
+use Rattle.std.specs.List.{list_any}
 use Rattle.std.specs.Option.{option_map_or}
 use Rattle.json.specs.Json.{Json}
-use Rattle.json.specs.Find.{get}
+use Rattle.json.specs.Find.{get, as_str}
 use Rattle.smithy_model.specs.Objects.{Entry, text_in, is_set, items_in, is_no_array, trait_text, has_trait}
 use Rattle.smithy_model.specs.Model.{Shape, Reference, Operation}
 use Rattle.smithy_model.specs.Form.{Form, smithy}
@@ -63,6 +64,18 @@ abbrev pub time_in : Form → Json → Option (List ℕ)
 time_in smithy spec = trait_text (codes "smithy.api#timestampFormat") spec
 time_in _ spec = service_time spec
 
+-- the traits that a mixin doesn't hand on (Smithy 2.0, "Mixins": the member `localTraits` of the trait `mixin`)
+abbrev pub local_traits_in : Json → Option (List Json)
+local_traits_in spec =
+    option_and_then (items_in (codes "localTraits")) (option_and_then (get (codes "smithy.api#mixin")) (get (codes "traits") spec))
+
+-- a trait of this name is one of them
+abbrev pub is_text : List ℕ → Json → Bool
+is_text wanted value = option_map_or (λ given. bytes_eq given wanted) (as_str value) false
+
+abbrev pub is_local_in : List ℕ → Json → Bool
+is_local_in name spec = option_map_or (list_any (is_text name)) (local_traits_in spec) false
+
 -- a shape of values with its own members, those of mixins not yet among them
 abbrev pub shape_in : Form → Entry → Option Shape
 shape_in form e =
@@ -73,4 +86,6 @@ shape_in form e =
       is_sparse = is_sparse_in form e.1;
       is_flattened = is_flattened_in form e.1;
       time_format = time_in form e.1;
+      has_local_sparse = is_local_in (codes "smithy.api#sparse") e.1;
+      has_local_time = is_local_in (codes "smithy.api#timestampFormat") e.1;
     }) (references_in (codes "mixins") (codes "target") e.1)) (kind_in form e.1)

@@ -57,6 +57,8 @@ shape_view s = record {
   is_sparse = s.is_sparse;
   is_flattened = s.is_flattened;
   time_format = option_map (λ t. t.now) s.time_format;
+  has_local_sparse = s.has_local_sparse;
+  has_local_time = s.has_local_time;
 }
 
 abbrev pub reference_view : kept_reference.Reference → Reference

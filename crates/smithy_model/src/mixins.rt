@@ -3,7 +3,7 @@ ghost use Rattle.std.specs.Prelude.{◌≡◌, ◌<◌, ◌||◌, ◌&&◌, ℕ,
 ghost use Rattle.std.specs.List.{fold, AllZip};
 ghost use Rattle.std.specs.Option.{option_or};
 ghost use Rattle.smithy_model.specs.Model as specs;
-ghost use Rattle.smithy_model.specs.Mixins.{takes_mixins, members_of, with_members, redefined, with_member, has_other_target, agree, nothing, with_shape, with_gathered, gathered, AreMixed, is_done, IsDone};
+ghost use Rattle.smithy_model.specs.Mixins.{takes_mixins, members_of, with_members, redefined, with_member, has_other_target, agree, nothing, with_parts, hands_on_sparse, hands_on_time, with_gathered, gathered, AreMixed, is_done, IsDone};
 ghost use Rattle.smithy_model.specs.Mixing.{TakesMixins, IsWaiting, IsHeldUp, IsSettledAt, RefusesOne, count_of_waiting};
 ghost use Rattle.smithy_model.specs.Placing.{position_of, place_in, ArePlaces};
 ghost use Rattle.smithy_model.specs.Reading.{ids_of};
@@ -151,17 +151,39 @@ fn nothing<'a>(alloc: Global) -> Gathered<'a>
     }
 }
 
+// Whether a mixin makes a shape sparse that takes it in.
+fn hands_on_sparse(mixin: &Shape<'_>) -> bool
+    ensures { result ≡ hands_on_sparse (shape_view mixin.now) }
+{
+    mixin.is_sparse && !mixin.has_local_sparse
+}
+
+// The time format that a mixin gives to a shape that takes it in.
+fn hands_on_time<'a>(mixin: &Shape<'a>) -> Option<&'a str>
+    ensures { option_map (λ t. t.now) result ≡ hands_on_time (shape_view mixin.now) }
+{
+    if mixin.has_local_time {
+        return None;
+    }
+    mixin.time_format
+}
+
 // Adds what a shape has.
-fn add_shape<'a>(gathered: &mut Gathered<'a>, shape: &Shape<'a>) -> Result<(), AllocError>
+fn add_parts<'a>(
+    gathered: &mut Gathered<'a>,
+    kind: &Kind<'a>,
+    is_sparse: bool,
+    time_format: Option<&'a str>,
+) -> Result<(), AllocError>
     requires { ArePlaces (map member_view gathered.now.members.items) gathered.now.places }
-    ensures added { OnOk result (gathered_view gathered.new ≡ with_shape (gathered_view gathered.old) (shape_view shape.now)) }
+    ensures added { OnOk result (gathered_view gathered.new ≡ with_parts (gathered_view gathered.old) (kind_view kind.now) is_sparse (option_map (λ t. t.now) time_format.entry)) }
     ensures places { OnOk result (ArePlaces (map member_view gathered.new.members.items) gathered.new.places) }
 {
-    let more = members_of(&shape.kind);
+    let more = members_of(kind);
     let agrees = put_all(&mut gathered.members, &mut gathered.places, more)?;
     gathered.agrees = both(gathered.agrees, agrees);
-    gathered.is_sparse = either(shape.is_sparse, gathered.is_sparse);
-    gathered.time_format = text_of(shape.time_format, gathered.time_format);
+    gathered.is_sparse = either(is_sparse, gathered.is_sparse);
+    gathered.time_format = text_of(time_format, gathered.time_format);
     Ok(())
 }
 
@@ -209,9 +231,19 @@ fn gather<'a>(
         let Some(mixin) = done_at(shapes, done, number) else {
             return Ok(None);
         };
-        add_shape(&mut gathered, mixin)?;
+        add_parts(
+            &mut gathered,
+            &mixin.kind,
+            hands_on_sparse(mixin),
+            hands_on_time(mixin),
+        )?;
     }
-    add_shape(&mut gathered, shape)?;
+    add_parts(
+        &mut gathered,
+        &shape.kind,
+        shape.is_sparse,
+        shape.time_format,
+    )?;
     if !gathered.agrees {
         return Err(ModelFault::BadMixin(shape.id));
     }

@@ -64,6 +64,10 @@ pub struct Shape<'a> {
     pub is_flattened: bool,
     /// `@timestampFormat`
     pub time_format: Option<&'a str>,
+    /// It is a mixin that keeps `@sparse` to itself.
+    pub has_local_sparse: bool,
+    /// It is a mixin that keeps `@timestampFormat` to itself.
+    pub has_local_time: bool,
 }
 
 /// What an operation refers to.
@@ -89,9 +93,9 @@ pub struct Operation<'a> {
 pub struct Model<'a> {
     pub shapes: Vec<Shape<'a>>,
     pub operations: Vec<Operation<'a>>,
-    /// Members may travel outside of the body: the protocol is `restJson1` or `restXml`.
+    /// Members may travel outside of the body: each protocol is `restJson1` or `restXml`.
     pub has_http_bindings: bool,
-    /// The protocol is `ec2Query`.
+    /// Each protocol is `ec2Query`.
     pub is_ec2: bool,
     /// It is a `service-2.json`.
     pub is_service_json: bool,

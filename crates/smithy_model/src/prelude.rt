@@ -42,6 +42,8 @@ fn plain<'a>(alloc: Global, id: &'a str, kind: Kind<'a>) -> Shape<'a>
         is_sparse: false,
         is_flattened: false,
         time_format: None,
+        has_local_sparse: false,
+        has_local_time: false,
     }
 }
 

@@ -1,7 +1,7 @@
 //! The form of a model, and what its protocol asks for.
 ghost use Rattle.std.specs.Prelude.{◌≡◌, map, option_map};
 ghost use Rattle.json.specs.Value.{value_view};
-ghost use Rattle.smithy_model.specs.Reading.{protocol_in, form_of_protocol, form_in, has_protocol, has_http_bindings_in, is_ec2_in, is_service_json};
+ghost use Rattle.smithy_model.specs.Reading.{protocol_in, form_of_protocol, form_in, has_protocol, has_rest, has_ec2, has_rpc, has_http_bindings_in, is_ec2_in, is_service_json};
 ghost use Rattle.smithy_model.specs.Views.{entry_view, form_view};
 
 use crate::format::Format;
@@ -55,7 +55,32 @@ fn has_protocol(entries: &[(&str, Value<'_>)], name: &str) -> bool
     false
 }
 
-/// Whether members may travel outside of the body: the protocol is `restJson1` or `restXml`.
+// Whether a service has a protocol that binds members to other parts of a message.
+fn has_rest(entries: &[(&str, Value<'_>)]) -> bool
+    ensures { result ≡ has_rest (map entry_view entries.now) }
+{
+    has_protocol(entries, "aws.protocols#restJson1")
+        || has_protocol(entries, "aws.protocols#restXml")
+}
+
+// Whether a service has the protocol of EC2.
+fn has_ec2(entries: &[(&str, Value<'_>)]) -> bool
+    ensures { result ≡ has_ec2 (map entry_view entries.now) }
+{
+    has_protocol(entries, "aws.protocols#ec2Query")
+}
+
+// Whether a service has another protocol that sends all members in the body.
+fn has_rpc(entries: &[(&str, Value<'_>)]) -> bool
+    ensures { result ≡ has_rpc (map entry_view entries.now) }
+{
+    has_protocol(entries, "aws.protocols#awsJson1_0")
+        || has_protocol(entries, "aws.protocols#awsJson1_1")
+        || has_protocol(entries, "aws.protocols#awsQuery")
+        || has_protocol(entries, "smithy.protocols#rpcv2Cbor")
+}
+
+/// Whether members may travel outside of the body: there is a protocol, and each is `restJson1` or `restXml`.
 pub(crate) fn has_http_bindings(
     format: Format,
     root: &Value<'_>,
@@ -64,20 +89,17 @@ pub(crate) fn has_http_bindings(
     ensures { result ≡ has_http_bindings_in (form_view format) (value_view root.now) (map entry_view entries.now) }
 {
     match format {
-        Format::Smithy => {
-            has_protocol(entries, "aws.protocols#restJson1")
-                || has_protocol(entries, "aws.protocols#restXml")
-        }
+        Format::Smithy => has_rest(entries) && !(has_ec2(entries) || has_rpc(entries)),
         _ => protocol(root) == "rest-json" || protocol(root) == "rest-xml",
     }
 }
 
-/// Whether the protocol is `ec2Query`.
+/// Whether there is a protocol, and each is `ec2Query`.
 pub(crate) fn is_ec2(format: Format, root: &Value<'_>, entries: &[(&str, Value<'_>)]) -> bool
     ensures { result ≡ is_ec2_in (form_view format) (value_view root.now) (map entry_view entries.now) }
 {
     match format {
-        Format::Smithy => has_protocol(entries, "aws.protocols#ec2Query"),
+        Format::Smithy => has_ec2(entries) && !(has_rest(entries) || has_rpc(entries)),
         _ => protocol(root) == "ec2",
     }
 }

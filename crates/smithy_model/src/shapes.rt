@@ -1,7 +1,7 @@
 //! Shapes and operations, as the text of a model has them.
 ghost use Rattle.std.specs.Prelude.{◌≡◌, map, option_map, IfOk};
 ghost use Rattle.json.specs.Value.{value_view};
-ghost use Rattle.smithy_model.specs.Shapes.{references_in, reference_key, reference_to, reference_in, reference_if, errors_in, operation_with, operation_in, is_sparse_in, is_flattened_in, time_in, shape_in};
+ghost use Rattle.smithy_model.specs.Shapes.{references_in, reference_key, reference_to, reference_in, reference_if, errors_in, operation_with, operation_in, is_sparse_in, is_flattened_in, time_in, local_traits_in, is_text, is_local_in, shape_in};
 ghost use Rattle.smithy_model.specs.Views.{reference_view, operation_view, shape_view, form_view};
 
 use crate::format::Format;
@@ -157,6 +157,38 @@ fn time_format<'a>(format: Format, spec: &Value<'a>) -> Option<&'a str>
     }
 }
 
+// The traits that a mixin doesn't hand on.
+fn local_traits<'v, 'a>(spec: &'v Value<'a>) -> Option<&'v [Value<'a>]>
+    ensures { option_map (λ vs. map value_view vs.now) result ≡ local_traits_in (value_view spec.now) }
+{
+    items(spec.get("traits")?.get("smithy.api#mixin")?, "localTraits")
+}
+
+// Whether a value is this text.
+fn is_text(value: &Value<'_>, wanted: &str) -> bool
+    ensures { result ≡ is_text wanted.now (value_view value.now) }
+{
+    match value.as_str() {
+        Some(given) => given == wanted,
+        None => false,
+    }
+}
+
+// Whether a mixin doesn't hand on the trait of this name.
+fn is_local(spec: &Value<'_>, name: &str) -> bool
+    ensures { result ≡ is_local_in name.now (value_view spec.now) }
+{
+    let Some(names) = local_traits(spec) else {
+        return false;
+    };
+    for given in names {
+        if is_text(given, name) {
+            return true;
+        }
+    }
+    false
+}
+
 /// A shape of this id, with its own members: none where it isn't as its type asks.
 pub(crate) fn read_shape<'a>(
     alloc: Global,
@@ -179,5 +211,7 @@ pub(crate) fn read_shape<'a>(
         is_sparse: is_sparse(format, spec),
         is_flattened: is_flattened(format, spec),
         time_format: time_format(format, spec),
+        has_local_sparse: is_local(spec, "smithy.api#sparse"),
+        has_local_time: is_local(spec, "smithy.api#timestampFormat"),
     }))
 }

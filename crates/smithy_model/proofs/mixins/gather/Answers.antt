@@ -1,7 +1,7 @@
 use Rattle.std.proofs.Common.{◌≡◌, ◌<◌, ◌≤◌, ◌∙◌, ℕ, List, [], ◌∷◌, ◌++◌, Bor, length, map, get_or, slice_get, take_all, bytes_eq, Some, false, sym, ap, subst, inl, inr, refl, rules, arith}
 use Rattle.std.proofs.lemmas.List.{length-map}
 use Rattle.std.specs.List.{list_any, AllZip}
-use Rattle.smithy_model.specs.Mixins.{Gathered, nothing, with_shape, IsDone}
+use Rattle.smithy_model.specs.Mixins.{Gathered, nothing, with_shape, with_mixin, IsDone}
 use Rattle.smithy_model.specs.Views.{shape_view, numbers_view, gathered_view}
 use Rattle.smithy_model.proofs.Put.{fold_last}
 use Rattle.smithy_model.proofs.Zip.{zip_next}
@@ -20,12 +20,12 @@ loop-id-preserved c =
     let named = subst (λ (ws : List (Bor (List ℕ))). mixin.id ≡ (get_or ws i d).now) c.deref-id-items.ensures.value
     (id_there shapes (numbers_view c.args.numbers.now) c.in-Some.number mixin _ c.requires c.in-Some.ensures.found there.0) in
     record {
-      places = c.in_ok-add_shape.ensures.places;
+      places = c.in_ok-add_parts.ensures.places;
       so_far = (
         mixins ++ mixin ∷ [],
         zip_next (IsDone shapes c.args.done.now) (λ (t : Bor (List ℕ)). t.now) c.args.shape.now.mixins.items i d mixins mixin within c.loop-id.invariant.so_far.1
             (c.in-Some.number, there.0, there.1, named),
-        c.in_ok-add_shape.ensures.added ∙ fold_last with_shape nothing (gathered_view c.loop-id.gathered) mixins mixin c.loop-id.invariant.so_far.2,
+        (rw (c.hands_on_sparse.ensures, c.hands_on_time.ensures) at c.in_ok-add_parts.ensures.added) ∙ fold_last with_mixin nothing (gathered_view c.loop-id.gathered) mixins mixin c.loop-id.invariant.so_far.2,
       );
     }
 
@@ -68,5 +68,5 @@ returns-then-not-gathered-clause-refused c =
     let all : length ids ≤ c.loop-id.id-index = search rules in
     let zip = subst (λ (ws : List (Bor (List ℕ))). AllZip (IsDone shapes c.args.done.now) (map (λ (t : Bor (List ℕ)). t.now) ws) mixins)
     (take_all c.loop-id.id-index ids all) c.loop-id.invariant.so_far.1 in
-    let made = c.in_ok-add_shape-2.ensures.added ∙ fold_last with_shape nothing (gathered_view c.loop-id.gathered) mixins own c.loop-id.invariant.so_far.2 in
+    let made = c.in_ok-add_parts-2.ensures.added ∙ ap (λ g. with_shape g own) c.loop-id.invariant.so_far.2 in
     λ number at. inr (mixins, zip, sym (ap (λ (g : Gathered). g.agrees) made) ∙ c.if-not-gathered.true, refl)
