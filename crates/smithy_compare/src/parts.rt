@@ -1,5 +1,5 @@
 //! The parts of a value or a document, one after another.
-ghost use Rattle.std.specs.Prelude.{◌≡◌, ◌<◌, ◌^◌, suc, MatchOption, IfSome};
+ghost use Rattle.std.specs.Prelude.{◌≡◌, ◌<◌, ◌^◌, suc, MatchOption};
 ghost use Rattle.smithy_compare.specs.FirstPath.{step_cmp};
 ghost use Rattle.smithy_compare.specs.Tree.{no_parts, part};
 ghost use Rattle.smithy_compare.specs.Private.Nodes.{node_tree, step_at, parts_of};
@@ -82,8 +82,7 @@ impl<'v> Parts<'v> {
     #[inline(always)]
     pub(crate) fn next_part(&mut self) -> Option<(Label<'v>, Node<'v>)>
         requires stands { PartsStand self.old }
-        ensures shows { MatchOption result (parts_of self.old ≡ no_parts) (λ e. parts_of self.old ≡ part (step_at e.0) (node_tree e.1) (parts_of self.new)) }
-        ensures stands { IfSome result (λ e. NodeStands e.1 × PartsStand self.new) }
+        ensures { MatchOption result (parts_of self.old ≡ no_parts) (λ e. (parts_of self.old ≡ part (step_at e.0) (node_tree e.1) (parts_of self.new)) × NodeStands e.1 × PartsStand self.new) }
     {
         match self {
             Parts::Nothing => None,
