@@ -2,12 +2,17 @@
    wanted wire, of the value that an input spells, into the caller's memory. docs/TABLES.md says what a table is.
 
    Every call is proved safe for each table, root and input, and its number is that of the program, or 24, or 25 where there is no
-   table: docs/PROGRAMS.md says what each means but the last. What no prover sees, and a caller of the functions at the end owes:
-   - A pointer is not null, even where its length is 0, and its length is that of memory which the call may read, or write if it
-     isn't const. What is written overlaps nothing else that the call is given. The functions with `static inline` see to null.
-   - A `smithy_table` is changed by these functions alone. One call at a time uses it, and none after it was freed. Threads may
-     each have a table of their own.
-   - `malloc`, `realloc` and `free` are those of the C library, and no call is made from a signal handler. */
+   table: docs/PROGRAMS.md says what each means but the last. What no prover sees, and a caller owes:
+   - A pointer's length is that of memory which the call may read, or write if it isn't const. Memory that may be written is
+     initialised, as by `calloc`, and overlaps nothing else that the call is given.
+   - A `size_t *`, a `smithy_table *` and a `smithy_task *` are aligned as C has them by itself.
+   - A `smithy_table` is changed by these functions alone. One call at a time uses it, and none after it was freed. It is freed before
+     it takes in another table: `smithy_table_accept` doesn't look at what stood there, which is lost. Threads may each have a table
+     of their own.
+   - The stack suffices. The deepest bodies took 80 KiB when it was measured, and bindings/c/test.c reads them on a thread of 128 KiB.
+   - `malloc`, `realloc` and `free` are those of the C library, and no call is made from a signal handler.
+   - A pointer is not null, even where its length is 0. The functions with `static inline`, at the end, see to null themselves. Bytes at
+     null have no length. A call without a table answers 25, and one without a task, a place for a length or one for a table 2. */
 #ifndef SMITHY_TRANSCODE_H
 #define SMITHY_TRANSCODE_H
 
@@ -33,7 +38,8 @@ enum {
 /* What a call answers. */
 enum {
     SMITHY_DONE = 0,
-    SMITHY_USAGE = 2,                /* a wire that is none, a form whose action or version isn't UTF-8, or a body of many that has no place */
+    SMITHY_USAGE = 2,                /* a wire that is none, a form whose action or version isn't UTF-8, a body of many that has no place, or
+                                        null in place of a task, of a length or of a table that is to be accepted */
     SMITHY_OUT_OF_MEMORY = 8,
     SMITHY_INVALID_INPUT = 10,       /* the input spells no value of the root: it is invalid, */
     SMITHY_TOO_DEEP = 11,            /* too deep, */
@@ -89,9 +95,12 @@ static inline const uint8_t *smithy_bytes(const void *pointer)
     return pointer == NULL ? nothing : (const uint8_t *)pointer;
 }
 
-/* Accepts the table that a text is: 0, 8 or 20. */
+/* Accepts the table that a text is: 0, 8 or 20; or 2 where `table` is null. */
 static inline uint8_t smithy_table_accept(smithy_table *table, const void *text, size_t text_len)
 {
+    if (table == NULL) {
+        return SMITHY_USAGE;
+    }
     table->pointer = NULL;
     return smithy_transcode_accept(smithy_bytes(text), text == NULL ? 0 : text_len, table);
 }
@@ -111,9 +120,15 @@ static inline uint8_t smithy_table_transcode(smithy_table *table, const smithy_t
     void *out, size_t out_room, size_t *body_len)
 {
     static uint8_t nothing[1];
+    if (body_len == NULL) {
+        return SMITHY_USAGE;
+    }
+    *body_len = 0;
     if (table == NULL || table->pointer == NULL) {
-        *body_len = 0;
         return SMITHY_NO_TABLE;
+    }
+    if (task == NULL) {
+        return SMITHY_USAGE;
     }
     return smithy_transcode_body(*table, table, smithy_bytes(task->root), task->root == NULL ? 0 : task->root_len,
         task->from, task->to, smithy_bytes(task->action), task->action == NULL ? 0 : task->action_len,
@@ -130,9 +145,15 @@ static inline uint8_t smithy_table_transcode_all(smithy_table *table, const smit
 {
     static uint8_t nothing[1];
     static size_t none[1];
+    if (done == NULL) {
+        return SMITHY_USAGE;
+    }
     *done = 0;
     if (table == NULL || table->pointer == NULL) {
         return SMITHY_NO_TABLE;
+    }
+    if (task == NULL) {
+        return SMITHY_USAGE;
     }
     return smithy_transcode_bodies(*table, table, smithy_bytes(task->root), task->root == NULL ? 0 : task->root_len,
         task->from, task->to, smithy_bytes(task->action), task->action == NULL ? 0 : task->action_len,

@@ -29,7 +29,7 @@ static char *whole(const char *path, size_t *len)
 static void *transcode(void *unused)
 {
     smithy_table table = {NULL};
-    uint8_t *room = malloc(1 << 20);
+    uint8_t *room = calloc(1 << 20, 1);
     size_t len;
     (void)unused;
     if (room == NULL || smithy_table_accept(&table, text, text_len) != SMITHY_DONE) {

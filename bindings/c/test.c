@@ -113,7 +113,7 @@ static void room(void)
 {
     smithy_table table = {NULL};
     smithy_task task = task_of("S", SMITHY_JSON, SMITHY_JSON);
-    uint8_t out[8];
+    uint8_t out[8] = {0};
     size_t len = 0;
     expect("a table is accepted", smithy_table_accept(&table, TEXT, sizeof TEXT - 1) == SMITHY_DONE);
     expect("the body fills the room", smithy_table_transcode(&table, &task, "{\"a\":7}", 7, out, 7, &len) == SMITHY_DONE && len == 7);
@@ -135,6 +135,114 @@ static void refused_tables(void)
     smithy_table_free(&table);
 }
 
+/* Null in place of a table, a task, a length or a count, with all else as it should be. */
+static void nulls(void)
+{
+    smithy_table table = {NULL};
+    smithy_task task = task_of("S", SMITHY_JSON, SMITHY_JSON);
+    uint8_t out[8] = {0}, status = 77;
+    size_t end = 2, out_end = 77, len = 99, done = 99;
+    expect("null for the table that is accepted", smithy_table_accept(NULL, TEXT, sizeof TEXT - 1) == SMITHY_USAGE);
+    smithy_table_free(NULL);
+    expect("no table at all", smithy_table_transcode(NULL, &task, "{}", 2, out, 8, &len) == SMITHY_NO_TABLE && len == 0);
+    expect("no table at all for many",
+        smithy_table_transcode_all(NULL, &task, &end, 1, "{}", 2, out, 8, &out_end, &status, &done) == SMITHY_NO_TABLE && done == 0);
+    expect("neither a table nor a length", smithy_table_transcode(NULL, NULL, "{}", 2, out, 8, NULL) == SMITHY_USAGE);
+    expect("a table is accepted", smithy_table_accept(&table, TEXT, sizeof TEXT - 1) == SMITHY_DONE);
+    len = done = 99;
+    expect("no task", smithy_table_transcode(&table, NULL, "{}", 2, out, 8, &len) == SMITHY_USAGE && len == 0);
+    expect("no task for many",
+        smithy_table_transcode_all(&table, NULL, &end, 1, "{}", 2, out, 8, &out_end, &status, &done) == SMITHY_USAGE && done == 0);
+    expect("no place for the length", smithy_table_transcode(&table, &task, "{}", 2, out, 8, NULL) == SMITHY_USAGE);
+    expect("no place for the count",
+        smithy_table_transcode_all(&table, &task, &end, 1, "{}", 2, out, 8, &out_end, &status, NULL) == SMITHY_USAGE);
+    expect("nothing is written then", out[0] == 0 && out_end == 77 && status == 77);
+    expect("the table is still there", smithy_table_transcode(&table, &task, "{}", 2, out, 8, &len) == SMITHY_DONE && len == 2);
+    smithy_table_free(&table);
+}
+
+/* A table is freed before another one is accepted in its place: neither is lost, which the checkers of memory would tell. */
+static void table_after_table(void)
+{
+    static const char other[] = "structure T\nmember b integer\n";
+    smithy_table table = {NULL};
+    expect("a table is accepted", smithy_table_accept(&table, TEXT, sizeof TEXT - 1) == SMITHY_DONE);
+    smithy_table_free(&table);
+    expect("another is accepted", smithy_table_accept(&table, other, sizeof other - 1) == SMITHY_DONE);
+    TEXT_ROW("T", SMITHY_JSON, SMITHY_JSON, "{\"b\":7}", SMITHY_DONE, "{\"b\":7}");
+    TEXT_ROW("S", SMITHY_JSON, SMITHY_JSON, "{}", SMITHY_NO_SUCH_SHAPE, "");
+    smithy_table_free(&table);
+}
+
+/* A body of 128 containers, one in the other: what stands in front of those that repeat, one of them, and what stands inside of all. */
+struct nest {
+    const char *front, *open, *inside, *close;
+    int refused; /* by the wires without documents */
+};
+
+static const struct nest NESTS[] = {
+    {"", "\"s\":{", "", "}", 0},
+    {"\"l\":", "[", "", "]", 0},
+    {"\"m\":{", "\"k\":{", "", "}", 0},
+    {"\"u\":{", "\"u\":{", "\"n\":7", "}", 0},
+    {"\"x\":", "[", "", "]", 1},
+    {"\"x\":{", "\"k\":{", "", "}", 1},
+};
+
+static size_t nested(const struct nest *nest, char *body)
+{
+    size_t len = (size_t)sprintf(body, "{%s", nest->front);
+    int opened = nest->front[0] != 0 && nest->open[0] != '[';
+    for (int n = opened; n < 127; n++) {
+        len += (size_t)sprintf(body + len, "%s", nest->open);
+    }
+    len += (size_t)sprintf(body + len, "%s", nest->inside);
+    for (int n = 0; n < 127; n++) {
+        len += (size_t)sprintf(body + len, "%s", nest->close);
+    }
+    return len + (size_t)sprintf(body + len, "}");
+}
+
+/* The deepest bodies, from JSON to each wire, and from CBOR back. */
+static void *deepest(void *unused)
+{
+    static const char text[] = "structure S\nmember s S\nmember l L\nmember m M\nmember u U\nmember x document\n"
+                               "list L L\nmap M M\nunion U\nmember u U\nmember n long\n";
+    static const uint32_t wires[] = {SMITHY_JSON, SMITHY_CBOR, SMITHY_CBOR_DEFINITE, SMITHY_QUERY};
+    static char body[2048];
+    static uint8_t out[1 << 18], back[4096];
+    smithy_table table = {NULL};
+    (void)unused;
+    expect("a table is accepted", smithy_table_accept(&table, text, sizeof text - 1) == SMITHY_DONE);
+    for (size_t n = 0; n < sizeof NESTS / sizeof NESTS[0]; n++) {
+        size_t body_len = nested(&NESTS[n], body), len = 0, back_len = 0;
+        for (size_t w = 0; w < sizeof wires / sizeof wires[0]; w++) {
+            smithy_task task = task_of("S", SMITHY_JSON, wires[w]);
+            int wanted = NESTS[n].refused && wires[w] != SMITHY_JSON ? SMITHY_DOCUMENT : SMITHY_DONE;
+            expect("a deep body", smithy_table_transcode(&table, &task, body, body_len, out, sizeof out, &len) == wanted);
+            if (wanted == SMITHY_DONE && (wires[w] == SMITHY_CBOR || wires[w] == SMITHY_CBOR_DEFINITE)) {
+                task = task_of("S", SMITHY_CBOR, SMITHY_JSON);
+                expect("a deep body of CBOR", smithy_table_transcode(&table, &task, out, len, back, sizeof back, &back_len) == SMITHY_DONE);
+                expect("the same body", back_len == body_len && memcmp(back, body, body_len) == 0);
+            }
+        }
+    }
+    smithy_table_free(&table);
+    return NULL;
+}
+
+/* A thread with no more stack than one of musl has by default. */
+static void stack(void)
+{
+    pthread_attr_t attributes;
+    pthread_t id;
+    pthread_attr_init(&attributes);
+    expect("a small stack", pthread_attr_setstacksize(&attributes, 128 << 10) == 0);
+    expect("a thread", pthread_create(&id, &attributes, deepest, NULL) == 0);
+    pthread_join(id, NULL);
+    pthread_attr_destroy(&attributes);
+}
+
 /* A body of more than 16 MiB, which is the limit of the program and not of the library. */
 static void long_body(void)
 {
@@ -142,7 +250,7 @@ static void long_body(void)
     smithy_table table = {NULL};
     smithy_task task = task_of("S", SMITHY_JSON, SMITHY_CBOR);
     char *input = malloc(count + 16);
-    uint8_t *out = malloc(count + 16);
+    uint8_t *out = calloc(count + 16, 1);
     size_t len = 0;
     if (input == NULL || out == NULL) {
         expect("memory", 0);
@@ -166,8 +274,8 @@ static void many(void)
     size_t ends[3] = {7, 13, 21};
     smithy_table table = {NULL};
     smithy_task task = task_of("S", SMITHY_JSON, SMITHY_JSON);
-    uint8_t out[32], statuses[3];
-    size_t out_ends[3], done = 9;
+    uint8_t out[32] = {0}, statuses[3] = {0};
+    size_t out_ends[3] = {0}, done = 9;
     expect("a table is accepted", smithy_table_accept(&table, TEXT, sizeof TEXT - 1) == SMITHY_DONE);
     expect("many", smithy_table_transcode_all(&table, &task, ends, 3, input, 21, out, sizeof out, out_ends, statuses, &done) == SMITHY_DONE && done == 3);
     expect("their statuses", statuses[0] == 0 && statuses[1] == SMITHY_INVALID_INPUT && statuses[2] == 0);
@@ -197,7 +305,7 @@ static void memory(long count)
     smithy_table table = {NULL};
     smithy_task task = task_of("S", SMITHY_JSON, SMITHY_CBOR);
     struct rusage begun, ended;
-    uint8_t out[64];
+    uint8_t out[64] = {0};
     size_t len = 0;
     expect("a table is accepted", smithy_table_accept(&table, TEXT, sizeof TEXT - 1) == SMITHY_DONE);
     getrusage(RUSAGE_SELF, &begun);
@@ -220,7 +328,7 @@ static void *work(void *unused)
     smithy_table table = {NULL};
     smithy_task task = task_of("S", SMITHY_JSON, SMITHY_JSON);
     char body[32];
-    uint8_t out[32];
+    uint8_t out[32] = {0};
     size_t len = 0;
     (void)unused;
     if (smithy_table_accept(&table, TEXT, sizeof TEXT - 1) != SMITHY_DONE) {
@@ -259,6 +367,9 @@ int main(int words, char **word)
     deep();
     wide();
     room();
+    nulls();
+    table_after_table();
+    stack();
     refused_tables();
     long_body();
     if (!failed) {
