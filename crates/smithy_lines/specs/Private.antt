@@ -1,0 +1,3 @@
+-- Words that private clauses cite.
+pub mod Batches
+pub mod SoFar
