@@ -8,6 +8,7 @@ use smithy_rows::Field;
 use smithy_schema::{Schema, SerdeError, ShapeDeserializer, Shapes};
 use smithy_types::{Document, Number};
 use std::alloc::Global;
+use std::fmt::Display;
 
 /// Whether a line of a row is a call on a reader.
 pub fn is_call(word: &str) -> bool {
@@ -114,7 +115,10 @@ fn read_value<R: ShapeDeserializer>(
 ) -> Option<Result<(), SerdeError>> {
     match word {
         "read_boolean" => Some(boolean(alloc, source, place, answers)),
-        "read_long" => Some(long(alloc, source, place, answers)),
+        "read_byte" => Some(shown(alloc, source.read_byte(place), answers)),
+        "read_short" => Some(shown(alloc, source.read_short(place), answers)),
+        "read_integer" => Some(shown(alloc, source.read_integer(place), answers)),
+        "read_long" => Some(shown(alloc, source.read_long(place), answers)),
         "read_string" => Some(string(alloc, source, place, answers)),
         "read_blob" => Some(blob(alloc, source, place, answers)),
         "read_big_integer" => Some(big_integer(alloc, source, place, answers)),
@@ -136,13 +140,13 @@ fn boolean<R: ShapeDeserializer>(
     Ok(push_shown(alloc, answers, "value", value)?)
 }
 
-fn long<R: ShapeDeserializer>(
+// Adds a whole number that was read.
+fn shown<T: Display + Drop>(
     alloc: Global,
-    source: &mut R,
-    place: &Schema<'_>,
+    read: Result<T, SerdeError>,
     answers: &mut Vec<Field>,
 ) -> Result<(), SerdeError> {
-    let number = source.read_long(place)?;
+    let number = read?;
     Ok(push_shown(alloc, answers, "value", number)?)
 }
 
