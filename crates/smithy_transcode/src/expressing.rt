@@ -23,7 +23,10 @@ use smithy_value::{Trees, Value, ValueTrees};
 pub fn expressible(shapes: &Shapes, root: ShapeRef, value: &Value<'_>, to: &Wire) -> Option<Unfit>
     requires root { IsStructure (kind_of shapes.now (shape_place root.0)) }
     requires fits { Fits shapes.now (shape_place root.0) (view value.now) }
-    ensures { result ≡ unfit_for (wire_of to.now) shapes.now root.0 (view value.now) }
+    ensures unfit { result ≡ unfit_for (wire_of to.now) shapes.now root.0 (view value.now) }
+
+    // Where it can, and numbers the parts of lists and maps, there is a number for each part.
+    ensures positions { result ≡ None → CanCount (wire_of to.now) (view value.now) }
 {
     unfit::<ValueTrees<'_>>(&ValueTrees::new(), &shapes.schema(root), value, to)
 }
