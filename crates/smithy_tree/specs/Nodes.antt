@@ -1,5 +1,5 @@
 -- The values of nodes, each from those of the nodes before it.
-use Rattle.std.specs.Prelude.{ℕ, ℤ, ◌+◌, ◌≤◌, ◌<◌, ◌+ℤ◌, ◌*ℤ◌, pos, List, [], ◌∷◌, ◌++◌, take, drop, length, get_or, IsUtf8}
+use Rattle.std.specs.Prelude.{ℕ, ℤ, ◌+◌, ◌≤◌, ◌<◌, ◌+ℤ◌, ◌*ℤ◌, pos, List, [], ◌∷◌, ◌++◌, take, drop, length, get_or, ◌⊎◌, IsUtf8}
 use Rattle.smithy_instants.specs.Instant.{nanos_per_second}
 use Rattle.smithy_types.specs.Document.{whole_document}
 use Rattle.smithy_types.specs.DocumentView.{document_view}
@@ -70,6 +70,10 @@ values_after s vs (x ∷ xs) = values_after s (vs ++ item s vs x ∷ []) xs
 -- the child that a whole number is, without a label
 abbrev pub number_slot : ℤ → Slot
 number_slot n = record { first = 0; second = 0; node = nodes.Whole n }
+
+-- a place, or a number of what stands there, that 32 bits don't hold
+abbrev pub LeavesPlaces : ℕ → ℕ → Type 0
+LeavesPlaces at count = (4294967295 < at) ⊎ (4294967295 < count)
 
 -- so many bytes stand there, all in the input or all beside it: where they end behind the input, they begin behind it
 pub record IsPart (input side : List ℕ) (at size : ℕ) : Type 0 where

@@ -1,5 +1,5 @@
 -- What a pool stands for.
-use Rattle.std.specs.Prelude.{◌≡◌, ◌+◌, ◌-◌, ◌≤◌, ℕ, ℤ, List, [], ◌∷◌, ◌++◌, map as mapped, length, take, drop}
+use Rattle.std.specs.Prelude.{◌≡◌, ◌+◌, ◌-◌, ◌≤◌, ◌<◌, ℕ, ℤ, List, [], ◌∷◌, ◌++◌, map as mapped, length, take, drop}
 use Rattle.smithy_declarations.specs.Value.{Value, list, values_of, no_member_values, no_map_entries}
 use Rattle.smithy_tree.specs.Items.{Item, shown_of, whole_values, members_of, put_members, entries_of, put_entries}
 use Rattle.smithy_tree.specs.Nodes.{Store, bytes_in, slice_of, rare_value, node_value, values_over, values_after, item, IsNode, IsSlot, IsPart, AreNodes, AreBehind}
@@ -105,6 +105,11 @@ pub record ElementsStand (p : Pool) (e : Elements) : Type 0 where
   pub ordered : e.numbers_from ≤ e.numbers_to
   pub numbers : e.numbers_to ≤ length p.numbers.items
   pub waiting : e.waiting_from ≤ length (waiting p)
+
+-- whole numbers alone, one at least: the list takes no memory
+pub record AreNumbersAlone (p : Pool) (e : Elements) : Type 0 where
+  pub some : e.numbers_from < e.numbers_to
+  pub none_waits : length (waiting p) ≡ e.waiting_from
 
 -- an element stands behind the others
 pub record PutsElement (p q : Pool) (e f : Elements) (v : Value) : Type 0 where

@@ -18,8 +18,9 @@ pub struct Elements {
 }
 
 impl<'a> Pool<'a> {
-    ghost use Rattle.std.specs.Prelude.{◌≡◌, ◌≤◌, ◌+◌, [], length, OnOk, IfOk, take, drop};
-    ghost use Rattle.smithy_tree.specs.Seen.{store, view, waiting, HoldsSlot, IsSound, elements_in, ElementsStand, PutsElement, ClosesElements};
+    ghost use Rattle.std.specs.Prelude.{◌≡◌, ◌≤◌, ◌+◌, ◌-◌, [], length, OnOk, OnErr, IfOk, take, drop};
+    ghost use Rattle.smithy_tree.specs.Nodes.{LeavesPlaces};
+    ghost use Rattle.smithy_tree.specs.Seen.{store, view, waiting, HoldsSlot, IsSound, elements_in, ElementsStand, AreNumbersAlone, PutsElement, ClosesElements};
 
     /// The elements of a list that has none yet.
     #[inline(always)]
@@ -63,6 +64,7 @@ impl<'a> Pool<'a> {
         requires sound { IsSound self.old }
         requires half { ElementsStand self.old elements }
         ensures ok { IfOk result (λ n. ClosesElements self.old self.new elements n) }
+        ensures limit { OnErr result (AreNumbersAlone self.old elements → LeavesPlaces elements.numbers_from (elements.numbers_to - elements.numbers_from)) }
     {
         let count = elements.numbers_to - elements.numbers_from;
         if count == 0 {

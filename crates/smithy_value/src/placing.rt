@@ -1,9 +1,9 @@
 //! Texts and bytes of a reader in a pool.
-ghost use Rattle.std.specs.Prelude.{◌≡◌, IfOk, IfErr};
+ghost use Rattle.std.specs.Prelude.{◌≡◌, IfOk, IfErr, OnErr};
 ghost use Rattle.smithy_schema.specs.Spans.{text_bytes, span_bytes, IsTextPlaced, IsPlaced};
 ghost use Rattle.smithy_schema.specs.declared.error.SerdeError.TheVariants.{NoMemory};
 ghost use Rattle.smithy_tree.specs.Seen.{IsSound, HasBytes};
-ghost use Rattle.smithy_value.specs.Private.Placed.{HasText};
+ghost use Rattle.smithy_value.specs.Private.Placed.{HasText, RefusesText, RefusesBytes};
 
 use smithy_schema::{BytesSpan, SerdeError, TextSpan};
 use smithy_tree::Pool;
@@ -25,6 +25,7 @@ pub(crate) fn place_text(pool: &mut Pool<'_>, text: TextSpan) -> Result<(u32, u3
     requires placed { IsTextPlaced pool.old.input.now text }
     ensures ok { IfOk result (λ r. HasText pool.old pool.new r.0 r.1 (text_bytes pool.old.input.now text)) }
     ensures err { IfErr result (λ e. e ≡ NoMemory) }
+    ensures limit { OnErr result (RefusesText text) }
 {
     match text {
         TextSpan::Placed(at, size) => {
@@ -44,6 +45,7 @@ pub(crate) fn place_bytes(pool: &mut Pool<'_>, bytes: BytesSpan) -> Result<(u32,
     requires placed { IsPlaced pool.old.input.now bytes }
     ensures ok { IfOk result (λ r. HasBytes pool.old pool.new r.0 r.1 (span_bytes pool.old.input.now bytes)) }
     ensures err { IfErr result (λ e. e ≡ NoMemory) }
+    ensures limit { OnErr result (RefusesBytes bytes) }
 {
     match bytes {
         BytesSpan::Placed(at, size) => {

@@ -124,6 +124,7 @@ impl<M: Copy> OpenContainers<M> {
         ensures taken { OnOk result (after_value (opens_of self.old) ≡ Ok (opens_of self.new)) }
         ensures marks { OnOk result (marks_of self.new ≡ marks_of self.old) }
         ensures refused { IfErr result (λ e. IsFault e → after_value (opens_of self.old) ≡ Err e) }
+        ensures unwritable { IfErr result (λ e. e ≡ Unwritable) }
         ensures sound { IsErrOf result Failed → ⊥ }
         ensures broken { self.new.failed ≡ self.old.failed }
     {
@@ -145,6 +146,7 @@ impl<M: Copy> OpenContainers<M> {
         ensures taken { OnOk result (after_text (opens_of self.old) ≡ Ok (opens_of self.new)) }
         ensures marks { OnOk result (marks_of self.new ≡ marks_of self.old) }
         ensures refused { IfErr result (λ e. IsFault e → after_text (opens_of self.old) ≡ Err e) }
+        ensures unwritable { IfErr result (λ e. e ≡ Unwritable) }
         ensures sound { IsErrOf result Failed → ⊥ }
         ensures broken { self.new.failed ≡ self.old.failed }
     {
