@@ -1,9 +1,5 @@
 mod Refusals
-mod Complete
 mod TranscodeLemmas
 mod GenLemmas
-mod CompareRefusals
 mod CompareLemmas
-mod GeneratedInput
 mod RunLemmas
-mod After

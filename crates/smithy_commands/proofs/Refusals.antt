@@ -1,21 +1,22 @@
--- What a refused table says, and a refused body.
-use Rattle.std.proofs.Common.{◌≡◌, ◌∙◌, ℕ, List, Err, refl}
+-- What the checks that commands share say where they fail.
+use Rattle.std.proofs.Common.{◌≡◌, ◌≢◌, ◌∙◌, inl, inr, ℕ, List, Result, Err, IsErrOf, refl}
+use Rattle.std.specs.declared.vec.Vec.{Vec}
+use Rattle.std.specs.declared.alloc.Global.{Global}
+use Rattle.smithy_outside.specs.declared.outside.LoadFault.{LoadFault}
+use Rattle.smithy_outside.specs.declared.outside.LoadFault.TheVariants as load_faults
 use Rattle.smithy_declarations.specs.declared.fault.TableFault.{TableFault}
 use Rattle.smithy_declarations.specs.declared.fault.TableFault.TheVariants.{BadLine, FloatShape, UnknownTarget, UnknownTimeFormat, DuplicateShape, NameClash, QueryName, KeyValueName, SparseDocument, TooMany, NoMemory}
 use Rattle.smithy_declarations.specs.Decl.{Decl}
 use Rattle.smithy_declarations.specs.TableText.{Lines, declarations, declarations_of}
-use Rattle.smithy_declarations.specs.Table.{Table}
 use Rattle.smithy_declarations.specs.Acceptance.{accepted, refused, bad_line, build_of, table_of}
 use Rattle.smithy_declarations.specs.DeclViews.{IsRefusedBy, IsLineFault}
-use Rattle.smithy_transcode.specs.declared.wire.TranscodeError.{TranscodeError}
-use Rattle.smithy_transcode.specs.declared.wire.TranscodeError.TheVariants as errors
-use Rattle.smithy_transcode.specs.Transcoding.{Transcodes}
-use Rattle.smithy_commands.specs.Transcode.{Transcode}
-use Rattle.smithy_outside.specs.Outside.{Shown}
-use Rattle.smithy_commands.specs.Status.{status_of_table_fault, status_of_error}
-use Rattle.smithy_commands.specs.Checks.{longest_table, Sources, IsLoaded, IsRoot, IsRead}
-use Rattle.smithy_commands.specs.TranscodeAnswer.{Refuses}
-use Rattle.smithy_commands.specs.Private.Stages.{FailsToLoad}
+use Rattle.smithy_declarations.specs.Table.{Table}
+use Rattle.smithy_outside.specs.Outside.{Shown, MetNoFault, GavePast, IsCountedLoad}
+use Rattle.smithy_commands.specs.Status.{status_of_load_fault, status_of_table_fault}
+use Rattle.smithy_commands.specs.declared.status.Status.{Status}
+use Rattle.smithy_commands.specs.declared.status.Status.TheVariants.{ReadFailed, OutOfMemory, TableRefused, NoSuchShape, NotAStructure, TooLong}
+use Rattle.smithy_commands.specs.Checks.{longest_table, longest_input, Sources, IsLoaded, IsRoot, RefusesChecks}
+use Rattle.smithy_commands.specs.Private.Stages.{FailsToLoad, FailsToFind}
 
 pub table_of_bad_line : (text : List ℕ) (n : ℕ) → declarations_of text ≡ Lines.bad_line n → table_of text ≡ refused bad_line n
 table_of_bad_line text n e = rw (e, table_of) refl
@@ -53,14 +54,43 @@ build_fails old new text decls (SparseDocument n) loaded e r = (text, loaded, (_
 build_fails old new text decls (TooMany n) loaded e r = (text, loaded, (_, _, n, table_of_declarations text decls e ∙ r, refl))
 build_fails old new text decls NoMemory loaded e r = tt
 
--- a body that spells nothing, or what the wanted wire can't express
-module _ (task : Transcode) (old new : Sources) (text input : List ℕ) (table : Table) (root : ℕ) (loaded : IsLoaded longest_table text old.table) (is : table_of text ≡ accepted table)
-    (there : IsRoot task.root_name table root) (read : IsRead input old.input new.input) where
-  pub transcode_fails : (error : TranscodeError) → Transcodes table root task.from input task.to (Err error) → Refuses task old new (status_of_error error)
-  transcode_fails errors.InvalidInput told =
-      (text, loaded, (table, is, (root, there, (input, read, (told.answers_invalid_input refl, told.answers_invalid_without_limits refl)))))
-  transcode_fails errors.TooDeep told = (text, loaded, (table, is, (root, there, (input, read, told.answers_too_deep refl))))
-  transcode_fails errors.TooWide told = (text, loaded, (table, is, (root, there, (input, read, told.answers_too_wide refl))))
-  transcode_fails errors.NotCarried told = (text, loaded, (table, is, (root, there, (input, read, told.answers_not_carried refl))))
-  transcode_fails (errors.Inexpressible u) told = (text, loaded, (table, is, (root, there, (input, read, told.answers_inexpressible u refl))))
-  transcode_fails errors.NoMemory told = tt
+-- ---- a command before its input was read
+
+-- what a read answers that is refused by this fault
+abbrev unread : LoadFault → Result (Vec ℕ Global) LoadFault
+unread fault = Err fault
+
+-- what a step answers that is refused by this status
+abbrev refused_by : Status → Result (Vec ℕ Global) Status
+refused_by status = Err status
+
+-- a read that is refused otherwise than by a fault meets none
+pub well_unless_failed : (fault : LoadFault) (old new : Shown) → IsCountedLoad (unread fault) old new → refused_by (status_of_load_fault fault) ≢ refused_by ReadFailed
+    → MetNoFault old new
+well_unless_failed load_faults.Failed old new counts other = absurd (other refl)
+well_unless_failed load_faults.TooLong old new counts other = counts
+well_unless_failed load_faults.NoMemory old new counts other = counts
+
+-- the table wasn't loaded
+pub load_refuses : (root_name : List ℕ) (old new : Sources) (status : Status) → new.input ≡ old.input → FailsToLoad old.table new.table status
+    → RefusesChecks root_name old new status
+load_refuses root_name old new ReadFailed kept why = inl (kept, why)
+load_refuses root_name old new OutOfMemory kept why = tt
+load_refuses root_name old new TooLong kept why = inl (kept, why)
+load_refuses root_name old new (TableRefused fault) kept why = (kept, why)
+load_refuses root_name old new _ kept why = absurd why
+
+module _ (root_name : List ℕ) (old new : Sources) (text : List ℕ) (table : Table) (loaded : IsLoaded longest_table text old.table) (is : table_of text ≡ accepted table) where
+  -- the root isn't there
+  pub find_refuses : (status : Status) → new.input ≡ old.input → FailsToFind table root_name status → RefusesChecks root_name old new status
+  find_refuses NoSuchShape kept why = (kept, (text, loaded, (table, is, why)))
+  find_refuses NotAStructure kept why = (kept, (text, loaded, (table, is, why)))
+  find_refuses _ kept why = absurd why
+
+  -- the input wasn't read
+  pub read_refuses : (root : ℕ) → IsRoot root_name table root → (fault : LoadFault) → MetNoFault old.table new.table → IsCountedLoad (unread fault) old.input new.input
+      → (IsErrOf (unread fault) load_faults.TooLong → GavePast longest_input old.input new.input)
+      → RefusesChecks root_name old new (status_of_load_fault fault)
+  read_refuses root there load_faults.Failed well counts long = inr (text, loaded, (table, is, (root, there, (well, counts))))
+  read_refuses root there load_faults.TooLong well counts long = inr (text, loaded, (table, is, (root, there, long refl)))
+  read_refuses root there load_faults.NoMemory well counts long = tt

@@ -1,13 +1,13 @@
 -- What the status of a run says, by the command that the words are.
-use Rattle.std.proofs.Common.{◌≡◌, ◌≢◌, ℕ, List, Bool, Some, None, refl, subst}
+use Rattle.std.proofs.Common.{◌≡◌, ◌≢◌, ℕ, List, Some, None, refl, subst}
 use Rattle.smithy_commands.specs.declared.status.Status.{Status}
 use Rattle.smithy_commands.specs.declared.status.Status.TheVariants.{Usage}
-use Rattle.smithy_commands.specs.Command.{Command, command_of}
-use Rattle.smithy_outside.specs.Outside.{Shown, Outside, outside}
-use Rattle.smithy_commands.specs.RunAnswer.{CommandAnswer, StatusAnswer}
+use Rattle.smithy_commands.specs.Command.{Command, command_of, CommandAnswer}
+use Rattle.smithy_outside.specs.Outside.{Environment}
+use Rattle.smithy_commands.specs.RunAnswer.{StatusAnswer}
 
 -- where the words are a command
-pub status_of_command : (words : List (List ℕ)) (command : Command) (old new : Outside) (status : Status) → command_of words ≡ Some command
+pub status_of_command : (words : List (List ℕ)) (command : Command) (old new : Environment) (status : Status) → command_of words ≡ Some command
     → CommandAnswer command old new status → status ≢ Usage → ((path : List ℕ) → (new.files path).content ≡ (old.files path).content)
     → StatusAnswer words old new status
 status_of_command words command old new status are answer other kept = record {
@@ -17,13 +17,11 @@ status_of_command words command old new status are answer other kept = record {
   files_are_kept = kept;
 }
 
--- where they are none, nothing but standard error moved
-pub status_of_no_command : (words : List (List ℕ)) (files : List ℕ → Shown) (input out err err_behind : Shown) (out_holds_back err_held err_held_behind : Bool)
-    → command_of words ≡ None
-    → StatusAnswer words (outside files input out err out_holds_back err_held) (outside files input out err_behind out_holds_back err_held_behind) Usage
-status_of_no_command words files input out err err_behind out_holds_back err_held err_held_behind none = record {
-  is_usage = (λ e. none, λ e. refl);
+-- where they are none, nothing moved
+pub status_of_no_command : (words : List (List ℕ)) (e : Environment) → command_of words ≡ None → StatusAnswer words e e Usage
+status_of_no_command words e none = record {
+  is_usage = (λ same. none, λ same. refl);
   answers = λ c is. absurd (cc (none, is));
-  only_for_a_command = λ e. refl;
+  only_for_a_command = λ same. refl;
   files_are_kept = λ path. refl;
 }

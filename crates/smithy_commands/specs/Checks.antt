@@ -1,13 +1,12 @@
 -- What the commands share: the checks before they answer, each where those before it passed, and what becomes of the output.
-use Rattle.std.specs.Prelude.{◌≡◌, ◌≢◌, ◌≤◌, ℕ, List, length, Some, None, true, false}
+use Rattle.std.specs.Prelude.{◌≡◌, ◌≢◌, ◌⊎◌, ◌≤◌, ℕ, List, length, Some, None, true, false}
 use Rattle.smithy_declarations.specs.Table.{Table, IsStructure, kind_of, shape_place, declared_as}
 use Rattle.smithy_declarations.specs.Acceptance.{Fault, TableAnswer, accepted, refused, table_of}
 use Rattle.smithy_declarations.specs.declared.fault.TableFault.{TableFault}
 use Rattle.smithy_commands.specs.declared.status.Status.{Status}
-use Rattle.smithy_commands.specs.declared.status.Status.TheVariants.{WriteFailed, TableRefused, NoSuchShape, NotAStructure}
-use Rattle.smithy_commands.specs.ErrorLine.{refusal_of}
-use Rattle.smithy_commands.specs.Status.{is_answer}
-use Rattle.smithy_outside.specs.Outside.{Shown, Outside, missing, HasFailed, MetNoFault, Shows, IsWhole, IsLonger, IsAtEnd}
+use Rattle.smithy_commands.specs.declared.status.Status.TheVariants.{ReadFailed, WriteFailed, OutOfMemory, TableRefused, NoSuchShape, NotAStructure, TooLong}
+use Rattle.smithy_commands.specs.Status.{tells_output, refusal_of}
+use Rattle.smithy_outside.specs.Outside.{Shown, Environment, missing, HasFailed, MetOneFault, MetNoFault, Shows, GavePast, IsWhole, IsLonger, IsAtEnd}
 
 -- in bytes
 abbrev pub longest_table : ℕ
@@ -86,13 +85,25 @@ RefusesTable root_name file NotAStructure =
     × ¬ IsStructure (kind_of table (shape_place root)))
 RefusesTable root_name file _ = ⊥
 
+-- why a command didn't come to its input, or couldn't read it: by the status, the table or the input wasn't read, or is too long, or
+-- memory was wanting, or the table has no such root
+abbrev pub RefusesChecks : List ℕ → Sources → Sources → Status → Type 0
+RefusesChecks root_name old new ReadFailed =
+    BeforeInput old new (MetOneFault old.table new.table)
+    ⊎ AfterRoot root_name old.table (λ table root. MetNoFault old.table new.table × MetOneFault old.input new.input)
+RefusesChecks root_name old new TooLong =
+    BeforeInput old new (IsTooLong longest_table old.table)
+    ⊎ AfterRoot root_name old.table (λ table root. GavePast longest_input old.input new.input)
+RefusesChecks root_name old new OutOfMemory = Unit {0}
+RefusesChecks root_name old new status = BeforeInput old new (RefusesTable root_name old.table status)
+
 -- ---- the output
 
 -- what becomes of the output of a command that writes all it has to say at once: its answer
-pub record WritesAtOnce (old new : Outside) (status : Status) : Type 0 where
-  pub nothing_is_held_back : is_answer status ≡ true → new.out_holds_back ≡ false
+pub record WritesAtOnce (old new : Environment) (status : Status) : Type 0 where
+  pub nothing_is_held_back : tells_output status ≡ true → new.out_holds_back ≡ false
   -- a fault that shows in the count of the output ends the run with 7
   pub out_met_no_fault : status ≢ WriteFailed → MetNoFault old.out new.out
   -- what the output tells and counts stays
-  pub out_is_untouched : is_answer status ≡ false → status ≢ WriteFailed
+  pub out_is_untouched : tells_output status ≡ false → status ≢ WriteFailed
       → (new.out ≡ old.out) × (new.out_holds_back ≡ old.out_holds_back)

@@ -1,8 +1,12 @@
--- The commands of the program, and the words that they are. Each command has a line in either list.
+-- The commands of the program: the words that they are, and what a status says of each. Each command has a line in every list.
 use Rattle.std.specs.Prelude.{List, [], ◌∷◌, ℕ, Option, None, option_map, if◌then◌else◌, codes, bytes_eq}
-use Rattle.smithy_commands.specs.Transcode.{Transcode, transcode_of}
-use Rattle.smithy_commands.specs.Gen.{Gen, gen_of}
-use Rattle.smithy_commands.specs.Compare.{Compare, compare_of}
+use Rattle.smithy_outside.specs.Outside.{Environment}
+use Rattle.smithy_commands.specs.declared.commands.Command as kept
+use Rattle.smithy_commands.specs.declared.commands.Command.TheVariants as commands
+use Rattle.smithy_commands.specs.declared.status.Status.{Status}
+use Rattle.smithy_commands.specs.Transcode.{Transcode, transcode_of, transcode_view, TranscodeAnswer}
+use Rattle.smithy_commands.specs.Gen.{Gen, gen_of, gen_view, GenAnswer}
+use Rattle.smithy_commands.specs.Compare.{Compare, compare_of, compare_view, CompareAnswer}
 
 pub data Command : Type 0 where
   transcode : Transcode → Command
@@ -17,3 +21,15 @@ command_of (keyword ∷ words) =
     else if bytes_eq keyword (codes "gen") then option_map gen (gen_of words)
     else if bytes_eq keyword (codes "compare") then option_map compare (compare_of words)
     else None
+
+-- what a status says where the words are this command
+abbrev pub CommandAnswer : Command → Environment → Environment → Status → Type 0
+CommandAnswer (transcode c) = TranscodeAnswer c
+CommandAnswer (gen c) = GenAnswer c
+CommandAnswer (compare c) = CompareAnswer c
+
+-- the command as plain data
+abbrev pub command_view : kept.Command → Command
+command_view (commands.Transcode c) = transcode (transcode_view c)
+command_view (commands.Gen c) = gen (gen_view c)
+command_view (commands.Compare c) = compare (compare_view c)

@@ -1,17 +1,16 @@
 -- How the process ends, by its arguments.
 use Rattle.std.specs.Prelude.{◌≡◌, ◌⊎◌, ℕ, List, false}
 use Rattle.std.specs.declared.io.ErrorKind.{ErrorKind}
-use Rattle.smithy_outside.specs.Outside.{Outside, OnlyErrMoved, outside, TookLine}
+use Rattle.smithy_outside.specs.Outside.{Outside, OnlyErrMoved, environment_of, outside, TookLine}
 use Rattle.smithy_outside.specs.Os.{only_counts, IsUnread}
 use Rattle.smithy_commands.specs.declared.status.Status.{Status}
 use Rattle.smithy_commands.specs.declared.status.Status.TheVariants.{Usage, OutOfMemory}
-use Rattle.smithy_commands.specs.ErrorLine.{line_of}
-use Rattle.smithy_commands.specs.Status.{status_code}
+use Rattle.smithy_commands.specs.Status.{status_code, line_of}
 use Rattle.smithy_commands.specs.RunAnswer.{RunAnswer}
 
 -- the real files and streams before a run: none of them met a fault
 abbrev pub at_start : Outside
-at_start = outside (λ path. only_counts 0) (only_counts 0) (only_counts 0) (only_counts 0) false false
+at_start = outside (environment_of (λ path. only_counts 0) (only_counts 0) (only_counts 0) false) (only_counts 0) false
 
 -- the process ends with a status, and nothing moved but standard error, which took the line
 abbrev pub EndsWithLine : Status → ℕ → Type 0

@@ -5,19 +5,13 @@
 #![tactic(auto)]
 
 mod checks;
-mod compare_words;
-mod comparing;
-mod gen_words;
-mod generating;
+mod commands;
 mod reporting;
 mod running;
 mod small_number;
 mod status;
 mod system;
-mod task;
-mod transcode_words;
-mod transcoding;
-mod words;
+mod wire_words;
 
 pub use reporting::report;
 pub use running::run;

@@ -1,8 +1,7 @@
 //! How the program ends.
 ghost use Rattle.std.specs.Prelude.{◌≡◌};
-ghost use Rattle.smithy_commands.specs.Status.{status_code, is_answer, status_of_load_fault, status_of_table_fault, status_of_error, status_of_second_error, status_of_compared, status_of_compare_error};
+ghost use Rattle.smithy_commands.specs.Status.{status_code, is_answer, status_of_load_fault, status_of_table_fault, status_of_error};
 
-use smithy_compare::{CompareError, Compared};
 use smithy_outside::LoadFault;
 use smithy_shapes::TableFault;
 use smithy_transcode::{TranscodeError, Unfit};
@@ -62,13 +61,11 @@ impl Status {
             Status::ReadFailed => 6,
             Status::WriteFailed => 7,
             Status::OutOfMemory => 8,
-            Status::InvalidInput => 10,
-            Status::TooDeep => 11,
-            Status::TooWide => 12,
-            Status::NotCarried => 13,
-            Status::Inexpressible(Unfit::Document) => 14,
-            Status::Inexpressible(Unfit::Null) => 15,
-            Status::Inexpressible(Unfit::Instant) => 16,
+            Status::InvalidInput => TranscodeError::InvalidInput.number(),
+            Status::TooDeep => TranscodeError::TooDeep.number(),
+            Status::TooWide => TranscodeError::TooWide.number(),
+            Status::NotCarried => TranscodeError::NotCarried.number(),
+            Status::Inexpressible(unfit) => TranscodeError::Inexpressible(unfit).number(),
             Status::TableRefused(_) => 20,
             Status::NoSuchShape => 21,
             Status::NotAStructure => 22,
@@ -133,44 +130,6 @@ impl From<TranscodeError> for Status {
             TranscodeError::NotCarried => Status::NotCarried,
             TranscodeError::Inexpressible(unfit) => Status::Inexpressible(unfit),
             TranscodeError::NoMemory => Status::OutOfMemory,
-        }
-    }
-}
-
-// The status where the second of two bodies was refused.
-fn status_of_second(error: TranscodeError) -> Status
-    ensures { result ≡ status_of_second_error error }
-{
-    match error {
-        TranscodeError::InvalidInput => Status::SecondInvalidInput,
-        TranscodeError::TooDeep => Status::SecondTooDeep,
-        TranscodeError::TooWide => Status::SecondTooWide,
-        TranscodeError::NotCarried => Status::SecondNotCarried,
-        TranscodeError::Inexpressible(unfit) => Status::Inexpressible(unfit),
-        TranscodeError::NoMemory => Status::OutOfMemory,
-    }
-}
-
-impl From<CompareError> for Status {
-    ghost from_gives = { λ error status. status ≡ status_of_compare_error error };
-
-    fn from(error: CompareError) -> Self {
-        match error {
-            CompareError::First(error) => Status::from(error),
-            CompareError::Second(error) => status_of_second(error),
-            CompareError::NoMemory => Status::OutOfMemory,
-        }
-    }
-}
-
-impl Status {
-    // The status where two bodies were compared.
-    pub(crate) fn of_compared(found: &Compared) -> Status
-        ensures { result ≡ status_of_compared found.now }
-    {
-        match found {
-            Compared::Same => Status::Done,
-            Compared::Differs(_) => Status::Differs,
         }
     }
 }

@@ -1,3 +1,4 @@
 pub mod Moved
 pub mod Faults
 pub mod Written
+pub mod Process

@@ -18,31 +18,41 @@ pub record Shown : Type 0 where
   -- told that no call on it meets a fault
   pub is_steady : Bool
 
--- all objects at one moment
-pub record Outside : Type 0 where
+-- what a command may use, at one moment: files, the input and the output
+pub record Environment : Type 0 where
   -- what the file at each path tells
   pub files : List ℕ → Shown
   pub input : Shown
   pub out : Shown
-  pub err : Shown
-  -- the sink may hold back some of what it took
+  -- the output may hold back some of what it took
   pub out_holds_back : Bool
-  pub err_holds_back : Bool
 
--- the outside, by its objects
-abbrev pub outside : (List ℕ → Shown) → (input out err : Shown) → (out_holds_back err_holds_back : Bool) → Outside
-outside files input out err out_holds_back err_holds_back = record {
+-- an environment, by its objects
+abbrev pub environment_of : (List ℕ → Shown) → (input out : Shown) → (out_holds_back : Bool) → Environment
+environment_of files input out out_holds_back = record {
   files = files;
   input = input;
   out = out;
-  err = err;
   out_holds_back = out_holds_back;
+}
+
+-- all objects at one moment: what a command may use, and standard error, which no command uses
+pub record Outside : Type 0 where
+  pub environment : Environment
+  pub err : Shown
+  pub err_holds_back : Bool
+
+-- all objects, by what a command may use and standard error
+abbrev pub outside : Environment → (err : Shown) → (err_holds_back : Bool) → Outside
+outside inner err err_holds_back = record {
+  environment = inner;
+  err = err;
   err_holds_back = err_holds_back;
 }
 
 -- each object but standard error tells, counts and holds back what it did before
 abbrev pub OnlyErrMoved : Outside → Outside → Type 0
-OnlyErrMoved old new = new ≡ record old { err = new.err; err_holds_back = new.err_holds_back }
+OnlyErrMoved old new = new.environment ≡ old.environment
 
 -- the last value of a count: a count that reached it stays there
 abbrev pub last_count : ℕ

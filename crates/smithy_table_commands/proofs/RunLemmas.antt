@@ -1,5 +1,5 @@
 -- What the steps of a run say together.
-use Rattle.std.proofs.Common.{◌≡◌, ◌≢◌, inl, inr, ℕ, List, Bool, Some, None, refl, subst}
+use Rattle.std.proofs.Common.{◌≡◌, ◌≢◌, inl, inr, ℕ, List, Bool, Some, None, false, refl, subst}
 use Rattle.smithy_model.specs.declared.fault.ModelFault.{ModelFault}
 use Rattle.smithy_model.specs.declared.fault.ModelFault.TheVariants as model_faults
 use Rattle.smithy_model_table.specs.declared.fault.WantedFault.{WantedFault}
@@ -13,7 +13,7 @@ use Rattle.smithy_outside.specs.Outside.{Shown, TookLine}
 use Rattle.smithy_table_commands.specs.declared.status.Status as kept
 use Rattle.smithy_table_commands.specs.declared.status.Status.TheVariants as statuses
 use Rattle.smithy_table_commands.specs.Command.{Task, command_of}
-use Rattle.smithy_table_commands.specs.Status.{status_code, line_of, last_line, status_of_model_fault, status_of_wanted_fault}
+use Rattle.smithy_table_commands.specs.Status.{status_code, is_answer, line_of, last_line, status_of_model_fault, status_of_wanted_fault}
 use Rattle.smithy_table_commands.specs.RunAnswer.{FailsToLoad, Refuses, TaskAnswer, RunAnswer}
 
 -- the text is no model
@@ -38,11 +38,13 @@ table_refused text w wanted_faults.Unwritable is = is
 table_refused text w wanted_faults.NoMemory is = tt
 
 -- a refusal isn't the status of a table that is written
-pub refused_before : (text : List ℕ) (w : Wanted) (s : kept.Status) → Refuses text w s → s ≢ statuses.Done
-refused_before text w s refused = λ done. subst (Refuses text w) done refused
+pub refused_before : (text : List ℕ) (w : Wanted) (s : kept.Status) → Refuses text w s → is_answer s ≡ false
+refused_before text w statuses.Done refused = absurd refused
+refused_before text w _ refused = refl
 
-pub unloaded_before : (a b : Shown) (s : kept.Status) → FailsToLoad a b s → s ≢ statuses.Done
-unloaded_before a b s fails = λ done. subst (FailsToLoad a b) done fails
+pub unloaded_before : (a b : Shown) (s : kept.Status) → FailsToLoad a b s → is_answer s ≡ false
+unloaded_before a b statuses.Done fails = absurd fails
+unloaded_before a b _ fails = refl
 
 usage_is_none : (task : Task) (old_file new_file old_out new_out : Shown) (was_back kept_back : Bool) (old_err new_err : Shown) (held : Bool)
     → TaskAnswer task old_file new_file old_out new_out was_back kept_back old_err new_err held statuses.Usage → ⊥
@@ -86,29 +88,7 @@ of_no_task words files out old_err new_err kept_back held code none has line = r
   only_for_a_task = λ is. (refl, (refl, refl), line);
 }
 
-not_done : statuses.Usage ≢ statuses.Done
-not_done = λ e. cc (e)
-
-pub usage_line : (P : Type 0) → (statuses.Usage ≢ statuses.Done → P) → P
-usage_line P line = line not_done
-
 -- the last line of a status other than 0
 pub last_other : (s : kept.Status) → s ≢ statuses.Done → last_line s ≡ line_of s
 last_other statuses.Done other = absurd (other refl)
-last_other statuses.Usage other = refl
-last_other statuses.ReadFailed other = refl
-last_other statuses.WriteFailed other = refl
-last_other statuses.OutOfMemory other = refl
-last_other (statuses.TableRefused fault) other = refl
-last_other statuses.NoSuchName other = refl
-last_other statuses.NoDeclaration other = refl
-last_other statuses.TooLong other = refl
-last_other statuses.NotJson other = refl
-last_other statuses.NotAModel other = refl
-last_other (statuses.BadShape id) other = refl
-last_other (statuses.UnknownTarget id) other = refl
-last_other (statuses.BadMixin id) other = refl
-last_other (statuses.Applied id) other = refl
-last_other statuses.Unwritable other = refl
-last_other statuses.LeftOut other = refl
-last_other statuses.NameTwice other = refl
+last_other _ other = refl

@@ -1,9 +1,10 @@
 -- The numbers that the program ends with, and what the last line on standard error says.
-use Rattle.std.specs.Prelude.{ℕ, List, [], ◌++◌, codes, decimal, flat_map}
+use Rattle.std.specs.Prelude.{ℕ, List, [], ◌++◌, Bool, true, false, codes, flat_map}
 use Rattle.smithy_model_table.specs.Leaving.{Reason, float, event_stream, outside, clash}
 use Rattle.smithy_model_table.specs.Outcomes.{LeftOut as Left}
 use Rattle.smithy_declarations.specs.declared.fault.TableFault.{TableFault}
 use Rattle.smithy_declarations.specs.declared.fault.TableFault.TheVariants as table_faults
+use Rattle.smithy_outside.specs.Report.{numbered, report_line}
 use Rattle.smithy_outside.specs.declared.outside.LoadFault.{LoadFault}
 use Rattle.smithy_outside.specs.declared.outside.LoadFault.TheVariants as load_faults
 use Rattle.smithy_model.specs.declared.fault.ModelFault.{ModelFault}
@@ -34,6 +35,11 @@ status_code Unwritable = 36
 status_code LeftOut = 37
 status_code NameTwice = 38
 
+-- the table is written, and no line says the status
+abbrev pub is_answer : Status → Bool
+is_answer Done = true
+is_answer _ = false
+
 -- the status where the model wasn't read
 abbrev pub status_of_load_fault : LoadFault → Status
 status_of_load_fault load_faults.Failed = ReadFailed
@@ -60,22 +66,18 @@ status_of_wanted_fault (wanted_faults.TableRefused fault) = TableRefused fault
 status_of_wanted_fault wanted_faults.Unwritable = Unwritable
 status_of_wanted_fault wanted_faults.NoMemory = OutOfMemory
 
--- a fault of a table, a space and its number
-abbrev pub refusal_text : List ℕ → ℕ → List ℕ
-refusal_text name number = name ++ (codes " " ++ decimal number)
-
 -- what refuses a table
 abbrev pub fault_text : TableFault → List ℕ
-fault_text (table_faults.BadLine n) = refusal_text (codes "BadLine") n
-fault_text (table_faults.FloatShape n) = refusal_text (codes "FloatShape") n
-fault_text (table_faults.UnknownTarget n) = refusal_text (codes "UnknownTarget") n
-fault_text (table_faults.UnknownTimeFormat n) = refusal_text (codes "UnknownTimeFormat") n
-fault_text (table_faults.DuplicateShape n) = refusal_text (codes "DuplicateShape") n
-fault_text (table_faults.NameClash n) = refusal_text (codes "NameClash") n
-fault_text (table_faults.QueryName n) = refusal_text (codes "QueryName") n
-fault_text (table_faults.KeyValueName n) = refusal_text (codes "KeyValueName") n
-fault_text (table_faults.SparseDocument n) = refusal_text (codes "SparseDocument") n
-fault_text (table_faults.TooMany n) = refusal_text (codes "TooMany") n
+fault_text (table_faults.BadLine n) = numbered (codes "BadLine") n
+fault_text (table_faults.FloatShape n) = numbered (codes "FloatShape") n
+fault_text (table_faults.UnknownTarget n) = numbered (codes "UnknownTarget") n
+fault_text (table_faults.UnknownTimeFormat n) = numbered (codes "UnknownTimeFormat") n
+fault_text (table_faults.DuplicateShape n) = numbered (codes "DuplicateShape") n
+fault_text (table_faults.NameClash n) = numbered (codes "NameClash") n
+fault_text (table_faults.QueryName n) = numbered (codes "QueryName") n
+fault_text (table_faults.KeyValueName n) = numbered (codes "KeyValueName") n
+fault_text (table_faults.SparseDocument n) = numbered (codes "SparseDocument") n
+fault_text (table_faults.TooMany n) = numbered (codes "TooMany") n
 fault_text table_faults.NoMemory = []
 
 -- what the last line says
@@ -101,7 +103,7 @@ text_of NameTwice = codes "a name twice in an object"
 
 -- the last line of a status other than 0
 abbrev pub line_of : Status → List ℕ
-line_of status = codes "smithy_table: " ++ text_of status ++ codes "\n"
+line_of status = report_line (codes "smithy_table") (text_of status)
 
 -- with 0 there is none
 abbrev pub last_line : Status → List ℕ

@@ -1,21 +1,11 @@
-//! The line on standard error that says how a run ended. Writing it takes no memory.
-ghost use Rattle.std.specs.Prelude.{◌≡◌, ◌≢◌, ◌++◌, false, codes, OnOk};
+//! What the line on standard error says of each status. Writing it takes no memory.
+ghost use Rattle.std.specs.Prelude.{◌≡◌, ◌++◌, true, false, codes, OnOk};
 ghost use Rattle.smithy_outside.specs.Outside.{IsWritten, TookLine};
-ghost use Rattle.smithy_table_commands.specs.Status.{refusal_text, fault_text, text_of, line_of, last_line};
+ghost use Rattle.smithy_table_commands.specs.Status.{is_answer, fault_text, text_of, line_of, last_line};
 
 use crate::status::Status;
-use itoa::Buffer;
-use smithy_outside::{Failed, Sink, write_all, write_bytes};
+use smithy_outside::{Failed, RunStatus, Sink, write_all, write_bytes, write_fault, write_line};
 use smithy_shapes::TableFault;
-
-// Writes the name of a fault, a space and its number.
-fn write_fault<E: Sink>(err: &mut E, name: &[u8], number: u64) -> Result<(), Failed>
-    ensures { IsWritten (refusal_text name.now number) result (E.told err.old) (E.told err.new) }
-{
-    write_bytes(err, name)?;
-    write_bytes(err, b" ")?;
-    write_bytes(err, Buffer::new().format(number).as_bytes())
-}
 
 // Writes what refuses a table.
 fn write_refusal<E: Sink>(err: &mut E, fault: TableFault) -> Result<(), Failed>
@@ -52,40 +42,37 @@ pub(crate) fn write_two<E: Sink>(err: &mut E, text: &[u8], id: &str) -> Result<(
     write_bytes(err, id.as_bytes())
 }
 
-// Writes what the line of a status says.
-fn write_text<E: Sink>(err: &mut E, status: Status<'_>) -> Result<(), Failed>
-    ensures { IsWritten (text_of status.entry) result (E.told err.old) (E.told err.new) }
-{
-    match status {
-        Status::Done => Ok(()),
-        Status::Usage => write_bytes(err, b"usage"),
-        Status::ReadFailed => write_bytes(err, b"read failed"),
-        Status::WriteFailed => write_bytes(err, b"write failed"),
-        Status::OutOfMemory => write_bytes(err, b"out of memory"),
-        Status::TableRefused(fault) => write_table_refused(err, fault),
-        Status::NoSuchName => write_bytes(err, b"no such name, or several"),
-        Status::NoDeclaration => write_bytes(err, b"nothing that a table declares"),
-        Status::TooLong => write_bytes(err, b"too long"),
-        Status::NotJson => write_bytes(err, b"no JSON"),
-        Status::NotAModel => write_bytes(err, b"no model"),
-        Status::BadShape(id) => write_two(err, b"a part is wrong or missing: ", id),
-        Status::UnknownTarget(id) => write_two(err, b"unknown target: ", id),
-        Status::BadMixin(id) => write_two(err, b"wrong mixins: ", id),
-        Status::Applied(id) => write_two(err, b"applied traits: ", id),
-        Status::Unwritable => write_bytes(err, b"a name that no table can have"),
-        Status::LeftOut => write_bytes(err, b"members left out; the word `partial` allows it"),
-        Status::NameTwice => write_bytes(err, b"a name twice in an object"),
-    }
-}
+impl RunStatus for Status<'_> {
+    ghost silent = { is_answer };
 
-// Writes the line of a status, up to the first fault.
-fn write_line<E: Sink>(err: &mut E, status: Status<'_>) -> Result<(), Failed>
-    ensures written { IsWritten (line_of status.entry) result (E.told err.old) (E.told err.new) }
-    ensures passed_on { OnOk result (E.holds_back err.new ≡ false) }
-{
-    write_bytes(err, b"smithy_table: ")?;
-    write_text(err, status)?;
-    write_all(err, b"\n")
+    ghost says = { text_of };
+
+    fn is_silent(self) -> bool {
+        matches!(self, Status::Done)
+    }
+
+    fn write_text<E: Sink>(self, err: &mut E) -> Result<(), Failed> {
+        match self {
+            Status::Done => Ok(()),
+            Status::Usage => write_bytes(err, b"usage"),
+            Status::ReadFailed => write_bytes(err, b"read failed"),
+            Status::WriteFailed => write_bytes(err, b"write failed"),
+            Status::OutOfMemory => write_bytes(err, b"out of memory"),
+            Status::TableRefused(fault) => write_table_refused(err, fault),
+            Status::NoSuchName => write_bytes(err, b"no such name, or several"),
+            Status::NoDeclaration => write_bytes(err, b"nothing that a table declares"),
+            Status::TooLong => write_bytes(err, b"too long"),
+            Status::NotJson => write_bytes(err, b"no JSON"),
+            Status::NotAModel => write_bytes(err, b"no model"),
+            Status::BadShape(id) => write_two(err, b"a part is wrong or missing: ", id),
+            Status::UnknownTarget(id) => write_two(err, b"unknown target: ", id),
+            Status::BadMixin(id) => write_two(err, b"wrong mixins: ", id),
+            Status::Applied(id) => write_two(err, b"applied traits: ", id),
+            Status::Unwritable => write_bytes(err, b"a name that no table can have"),
+            Status::LeftOut => write_bytes(err, b"members left out; the word `partial` allows it"),
+            Status::NameTwice => write_bytes(err, b"a name twice in an object"),
+        }
+    }
 }
 
 /// Writes the last line, and then what is held back: with 0 there is none.
@@ -95,19 +82,14 @@ pub(crate) fn write_last<E: Sink>(err: &mut E, status: Status<'_>) -> Result<(),
 {
     match status {
         Status::Done => write_all(err, b""),
-        _ => write_line(err, status),
+        _ => write_line(err, b"smithy_table", status),
     }
 }
 
 /// Says how a run ended, unless the table is written. That standard error fails is said nowhere.
 pub fn report<E: Sink>(err: &mut E, status: Status<'_>)
-    ensures untouched { status.entry ≡ Status.Done → (E.told err.new ≡ E.told err.old) × (E.holds_back err.new ≡ E.holds_back err.old) }
-    ensures line { status.entry ≢ Status.Done → TookLine (line_of status.entry) (E.told err.old) (E.told err.new) (E.holds_back err.new) }
+    ensures untouched { is_answer status.entry ≡ true → (E.told err.new ≡ E.told err.old) × (E.holds_back err.new ≡ E.holds_back err.old) }
+    ensures line { is_answer status.entry ≡ false → TookLine (line_of status.entry) (E.told err.old) (E.told err.new) (E.holds_back err.new) }
 {
-    match status {
-        Status::Done => {}
-        _ => {
-            let _ = write_line(err, status);
-        }
-    }
+    smithy_outside::report(err, b"smithy_table", status);
 }

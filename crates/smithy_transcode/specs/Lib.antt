@@ -4,8 +4,9 @@ pub mod Spelling
 pub mod Causes
 pub mod Nodes
 pub mod Transcoding
--- what the refusals of a transcoding tell
+-- what the refusals of a transcoding tell, and their numbers
 pub mod Refusal
+pub mod Numbers
 -- what reads and writes of a whole body say of their answers
 pub mod ReadBody
 pub mod WriteBody

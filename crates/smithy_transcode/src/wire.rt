@@ -66,3 +66,24 @@ pub enum TranscodeError {
     #[error("NoMemory")]
     NoMemory,
 }
+
+impl TranscodeError {
+    ghost use Rattle.std.specs.Prelude.{◌≡◌};
+    ghost use Rattle.smithy_transcode.specs.Numbers.{error_number};
+
+    /// The number that the program ends with where it refuses a body so, and that the library for C answers.
+    pub fn number(self) -> u8
+        ensures { result ≡ error_number self }
+    {
+        match self {
+            TranscodeError::NoMemory => 8,
+            TranscodeError::InvalidInput => 10,
+            TranscodeError::TooDeep => 11,
+            TranscodeError::TooWide => 12,
+            TranscodeError::NotCarried => 13,
+            TranscodeError::Inexpressible(Unfit::Document) => 14,
+            TranscodeError::Inexpressible(Unfit::Null) => 15,
+            TranscodeError::Inexpressible(Unfit::Instant) => 16,
+        }
+    }
+}

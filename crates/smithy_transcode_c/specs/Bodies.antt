@@ -3,7 +3,8 @@ use Rattle.std.specs.Prelude.{◌≡◌, ◌⊎◌, ◌≤◌, ◌<◌, ◌+◌,
 use Rattle.smithy_declarations.specs.Table.{Table}
 use Rattle.smithy_transcode.specs.Wires.{Wire}
 use Rattle.smithy_transcode.specs.Transcoding.{Answer, Transcodes}
-use Rattle.smithy_transcode_c.specs.Refusals.{refusal_number, refusal_of_error}
+use Rattle.smithy_transcode.specs.Numbers.{error_number}
+use Rattle.smithy_transcode_c.specs.Refusals.{refusal_number}
 use Rattle.smithy_transcode_c.specs.declared.refusal.Refusal.{Refusal}
 use Rattle.smithy_transcode_c.specs.Calls.{Asked, IsMeant, Refuses, StandsFirst}
 
@@ -22,7 +23,7 @@ LiesIn ends input n = (begin_of ends n ≤ end_of ends n) × (end_of ends n ≤ 
 -- what becomes of one answer: its status, and its bytes, of which a refusal has none
 abbrev pub IsPut : Answer → (status : ℕ) → (bytes : List ℕ) → Type 0
 IsPut (Ok body) status bytes = (status ≡ 0) × (bytes ≡ body.items)
-IsPut (Err error) status bytes = (status ≡ refusal_number (refusal_of_error error)) × (bytes ≡ [])
+IsPut (Err error) status bytes = (status ≡ error_number error) × (bytes ≡ [])
 
 -- an input has the status and the bytes that the answer of `transcode` to it has
 abbrev pub IsAnswered : Table → (root : ℕ) → (from to : Wire) → (input : List ℕ) → (status : ℕ) → (bytes : List ℕ) → Type 0

@@ -5,7 +5,8 @@ use Rattle.smithy_declarations.specs.Acceptance.{Fault, refused, table_of}
 use Rattle.smithy_declarations.specs.Table.{Table, IsStructure, kind_of, shape_place, declared_as}
 use Rattle.smithy_transcode.specs.Wires.{Wire, json, cbor, query}
 use Rattle.smithy_transcode.specs.Transcoding.{Answer, Transcodes}
-use Rattle.smithy_transcode_c.specs.Refusals.{refusal_number, refusal_of_error}
+use Rattle.smithy_transcode.specs.Numbers.{error_number}
+use Rattle.smithy_transcode_c.specs.Refusals.{refusal_number}
 use Rattle.smithy_transcode_c.specs.declared.refusal.Refusal.{Refusal}
 use Rattle.smithy_transcode_c.specs.declared.refusal.Refusal.TheVariants.{Usage, OutOfMemory, TableRefused, NoSuchShape, NotAStructure}
 
@@ -87,7 +88,7 @@ IsHandedOut bytes room number out =
 abbrev pub IsPassedOn : Answer → (room : List ℕ) → (number body_len : ℕ) → (out : List ℕ) → Type 0
 IsPassedOn (Ok body) room number body_len out = (body_len ≡ length body.items) × IsHandedOut body.items room number out
 IsPassedOn (Err error) room number body_len out =
-    (number ≡ refusal_number (refusal_of_error error)) × (body_len ≡ 0) × (out ≡ room)
+    (number ≡ error_number error) × (body_len ≡ 0) × (out ≡ room)
 
 -- What a call answers: why it has nothing to transcode, or what becomes of the answer of `transcode`.
 abbrev pub CallAnswer : Table → Asked → (input room : List ℕ) → (number body_len : ℕ) → (out : List ℕ) → Type 0

@@ -4,7 +4,6 @@ ghost use Rattle.smithy_transcode_c.specs.Calls.{CallAnswer, IsHandedOut};
 ghost use Rattle.smithy_transcode_c.specs.Views.{asked_of};
 
 use crate::asked::Asked;
-use crate::refusal::Refusal;
 use smithy_shapes::Shapes;
 use smithy_transcode::transcode;
 use std::alloc::Global;
@@ -45,6 +44,6 @@ pub(crate) fn answer(
             *len = body.len();
             hand_out(&body, out)
         }
-        Err(error) => Refusal::from(error).number(),
+        Err(error) => error.number(),
     }
 }

@@ -41,7 +41,7 @@ fn put_next(
             out[at..at + count].copy_from_slice(&body);
             Some((at + count, 0))
         }
-        Err(error) => Some((at, Refusal::from(error).number())),
+        Err(error) => Some((at, error.number())),
     }
 }
 

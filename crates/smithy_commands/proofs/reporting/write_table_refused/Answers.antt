@@ -1,6 +1,6 @@
 use Rattle.std.proofs.Common.{[], codes}
 use Rattle.std.specs.Option.{option_map_or}
-use Rattle.smithy_commands.specs.ErrorLine.{refusal_of, refusal_text}
+use Rattle.smithy_commands.specs.Status.{refusal_of, refusal_text}
 use Rattle.smithy_outside.proofs.Written.{written_more, cut_short}
 use Rattle.smithy_commands.proofs.reporting.write_table_refused.Goals as goal
 

@@ -1,29 +1,21 @@
-use Rattle.std.proofs.Common.{◌≡◌, ◌≢◌, ◌∙◌, inl, inr, ℕ, List, Bool, true, ap, Result, Ok, Err, IfErr, IfOk, map, string_bytes, String, false, refl, sym, subst}
+use Rattle.std.proofs.Common.{◌≡◌, ◌∙◌, inl, inr, ℕ, List, Bool, ap, Ok, Err, IfErr, IfOk, map, string_bytes, String, false, refl, sym, subst}
 use Rattle.std.specs.declared.alloc.Global.{Global}
-use Rattle.std.specs.declared.io.Error.{Error}
-use Rattle.std.specs.declared.io.ErrorKind.{ErrorKind}
-use Rattle.std.specs.declared.io.ErrorKind.TheVariants as kinds
-use Rattle.std.specs.declared.vec.IntoIter.{IntoIter}
 use Rattle.std.specs.IoError.{error_kind}
 use Rattle.std.specs.Process.{exit_status}
 use Rattle.smithy_commands.specs.declared.status.Status.{Status}
 use Rattle.smithy_commands.specs.declared.status.Status.TheVariants.{Usage, OutOfMemory}
-use Rattle.smithy_commands.specs.Status.{status_code, is_answer}
-use Rattle.smithy_outside.specs.Outside.{Shown, Outside, outside, TookLine}
-use Rattle.smithy_commands.specs.ErrorLine.{line_of}
+use Rattle.smithy_commands.specs.Status.{status_code, is_answer, line_of}
+use Rattle.smithy_outside.specs.Outside.{Shown, Outside, environment_of, outside, TookLine}
 use Rattle.smithy_commands.specs.RunAnswer.{RunAnswer}
 use Rattle.smithy_outside.specs.Os.{only_counts, words_of, IsUnread}
-use Rattle.smithy_commands.specs.System.{EndsWithLine, EndsAsRun, EndsUnread}
+use Rattle.smithy_commands.specs.System.{at_start, EndsWithLine, EndsAsRun, EndsUnread}
+use Rattle.smithy_outside.proofs.Process.{Arguments, read_with_words, none_without_arguments, unread_is_no_answer}
 use Rattle.smithy_commands.proofs.system.run_on_system.Goals as goal
-
--- what `env::args` answers
-abbrev Arguments : Type 0
-Arguments = Result (IntoIter (String Global) Global) Error
 
 -- a run over files and streams that met no fault before
 ends_as_run : (words : List (List ℕ)) (files input out err : ℕ) (out_held err_held : Bool) (new : Outside) (ran code : ℕ)
     → files ≡ 0 → input ≡ 0 → out ≡ 0 → err ≡ 0 → out_held ≡ false → err_held ≡ false → code ≡ ran
-    → RunAnswer words (outside (λ path. only_counts files) (only_counts input) (only_counts out) (only_counts err) out_held err_held) new ran → EndsAsRun words code
+    → RunAnswer words (outside (environment_of (λ path. only_counts files) (only_counts input) (only_counts out) out_held) (only_counts err) err_held) new ran → EndsAsRun words code
 ends_as_run words files input out err out_held err_held new ran code f i o e oh eh is answer =
     subst (EndsAsRun words) (sym is) (inl (new, rw (f, i, o, e, oh, eh) at answer))
 
@@ -32,31 +24,7 @@ ends_with_line : (status : Status) (err : ℕ) (behind : Shown) (held : Bool) (c
     → (is_answer status ≡ false → TookLine (line_of status) (only_counts err) behind held) → code ≡ status_code status → EndsWithLine status code
 ends_with_line status err behind held code other e took is =
     let line = subst (λ (n : ℕ). TookLine (line_of status) (only_counts n) behind held) e (took other) in
-    (outside (λ path. only_counts 0) (only_counts 0) (only_counts 0) behind false held, refl, line, is)
-
-not_true : (b : Bool) → (b ≡ true → ⊥) → b ≡ false
-not_true false never = refl
-not_true true never = absurd (never refl)
-
--- the status is none of an answer
-not_answered : (status other : Status) → status ≡ other → is_answer other ≡ false → is_answer status ≡ true → ⊥
-not_answered status other is none answer = let all = ap is_answer is in absurd (cc (all, none, answer))
-
-unread_is_no_answer : (kind : ErrorKind) (status : Status) → IsUnread Usage OutOfMemory kind status → is_answer status ≡ false
-unread_is_no_answer kind status is = not_true (is_answer status) (λ answer.
-    let other : kind ≢ kinds.OutOfMemory = λ no_memory. not_answered status OutOfMemory (is.0 no_memory) refl answer in
-    not_answered status Usage (is.1 other) refl answer)
-
--- where the words were read
-read_with_words : (arguments : Arguments) (words : List (List ℕ)) (code : ℕ) → IfOk arguments (λ a. words ≡ words_of a) → EndsAsRun words code
-    → IfOk arguments (λ a. EndsAsRun (words_of a) code)
-read_with_words (Ok a) words code are ends = subst (λ (ws : List (List ℕ)). EndsAsRun ws code) are ends
-read_with_words (Err e) words code are ends = tt
-
--- and where they weren't, no words are there
-none_without_arguments : (arguments : Arguments) (code : ℕ) → IfErr arguments (λ _. ⊥) → IfErr arguments (λ e. EndsUnread (error_kind e) code)
-none_without_arguments (Ok a) code none = tt
-none_without_arguments (Err e) code none = absurd none
+    (outside at_start.environment behind held, refl, line, is)
 
 -- where no words are there, by the arguments
 read_as_none : (arguments : Arguments) (status : Status) (code : ℕ) → IfOk arguments (λ _. status ≡ OutOfMemory)
@@ -68,7 +36,7 @@ read_as_none (Err e) status code is line = tt
 unread_as_none : (arguments : Arguments) (status : Status) (code : ℕ) → IfErr arguments (λ e. IsUnread Usage OutOfMemory (error_kind e) status)
     → (is_answer status ≡ false → EndsWithLine status code) → IfErr arguments (λ e. EndsUnread (error_kind e) code)
 unread_as_none (Ok a) status code is line = tt
-unread_as_none (Err e) status code is line = (status, is, line (unread_is_no_answer (error_kind e) status is))
+unread_as_none (Err e) status code is line = (status, is, line (unread_is_no_answer is_answer Usage OutOfMemory refl refl (error_kind e) status is))
 
 pub returns : goal.returns
 returns g c =
@@ -77,11 +45,11 @@ returns g c =
     let read = subst (λ (ws : List (String Global)). IfOk c.args.arguments (λ a. map string_bytes ws ≡ words_of a))
     (sym c.deref.ensures.value) c.in-Ok.ensures.read in
     record {
-      read = read_with_words c.args.arguments words code read
+      read = read_with_words (λ ws. EndsAsRun ws code) c.args.arguments words read
           (ends_as_run words c.new-files.result.faults c.new-input.result.faults c.new-out.result.faults c.new-err.result.faults c.new-out.result.is_unfinished
           c.new-err.result.is_unfinished _ c.run-code.result code c.new-files.ensures c.new-input.ensures.faults c.new-out.ensures.faults
           c.new-err.ensures.faults c.new-out.ensures.finished c.new-err.ensures.finished c.from-2.ensures c.run-code.ensures);
-      unread = none_without_arguments c.args.arguments code c.in-Ok.ensures.unread;
+      unread = none_without_arguments (λ kind. EndsUnread kind code) c.args.arguments c.in-Ok.ensures.unread;
     }
 
 pub returns-in-Err : goal.returns-in-Err

@@ -1,6 +1,6 @@
-use Rattle.std.proofs.Common.{map, string_bytes, sym}
+use Rattle.std.proofs.Common.{map, string_bytes, refl, sym}
 use Rattle.smithy_table_commands.specs.Views.{task_view}
-use Rattle.smithy_table_commands.proofs.RunLemmas.{of_task, of_no_task, usage_line}
+use Rattle.smithy_table_commands.proofs.RunLemmas.{of_task, of_no_task}
 use Rattle.smithy_table_commands.proofs.running.run.Goals as goal
 
 pub returns-in-Some : goal.returns-in-Some
@@ -14,4 +14,4 @@ pub returns-in-None : goal.returns-in-None
 returns-in-None g c =
     of_no_task (map string_bytes c.args.words.now) (g.F.Files.told c.args.files.now) (g.K.Sink.told c.args.out.now) (g.E.Sink.told c.args.err.now)
     (g.E.Sink.told c.report.new.err) (g.K.Sink.holds_back c.args.out.now) (g.E.Sink.holds_back c.report.new.err) c.code.result (sym c.in-None.ensures) c.code.ensures
-    (usage_line _ c.report.ensures.line)
+    (c.report.ensures.line refl)

@@ -1,0 +1,46 @@
+use Rattle.std.proofs.Common.{Some, map, string_bytes, sym, ap, ◌∙◌, refl}
+use Rattle.smithy_outside.specs.Environment.{environment}
+use Rattle.smithy_outside.specs.Outside.{environment_of}
+use Rattle.smithy_commands.specs.Command.{transcode, gen, compare, command_view}
+use Rattle.smithy_commands.specs.Transcode.{transcode_view}
+use Rattle.smithy_commands.specs.Gen.{gen_view}
+use Rattle.smithy_commands.specs.Compare.{compare_view}
+use Rattle.smithy_commands.proofs.CompareLemmas.{compare_is_no_usage}
+use Rattle.smithy_commands.proofs.GenLemmas.{gen_is_no_usage}
+use Rattle.smithy_commands.proofs.RunLemmas.{status_of_command, status_of_no_command}
+use Rattle.smithy_commands.proofs.TranscodeLemmas.{transcode_is_no_usage}
+use Rattle.smithy_commands.proofs.commands.status_of.Goals as goal
+
+pub returns-in-Transcode : goal.returns-in-Transcode
+returns-in-Transcode g c =
+    let old = environment g.F.Files g.S.Source g.K.Sink c.args.files.now c.args.input.now c.args.out.now in
+    let new = environment g.F.Files g.S.Source g.K.Sink c.transcode_input.new.files c.transcode_input.new.input c.transcode_input.new.out in
+    let command = transcode_view c.in-Transcode.command in
+    let answer = c.transcode_input.ensures in
+    status_of_command (map string_bytes c.args.words.now) (transcode command) old new c.transcode_input.result (sym c.in-Some.ensures ∙ ap (λ x. Some (command_view x)) c.in-Transcode.is)
+    answer (transcode_is_no_usage command old new c.transcode_input.result answer) answer.files_are_kept
+
+pub returns-in-Gen : goal.returns-in-Gen
+returns-in-Gen g c =
+    let files = g.F.Files.told c.args.files.now in
+    let input = g.S.Source.told c.args.input.now in
+    let old = environment_of files input (g.K.Sink.told c.args.out.now) (g.K.Sink.holds_back c.args.out.now) in
+    let new = environment_of files input (g.K.Sink.told c.write_generated.new.out) (g.K.Sink.holds_back c.write_generated.new.out) in
+    let command = gen_view c.in-Gen.command in
+    let answer = c.write_generated.ensures files input in
+    status_of_command (map string_bytes c.args.words.now) (gen command) old new c.write_generated.result (sym c.in-Some.ensures ∙ ap (λ x. Some (command_view x)) c.in-Gen.is)
+    answer (gen_is_no_usage command old new c.write_generated.result answer) (λ path. refl)
+
+pub returns-in-Compare : goal.returns-in-Compare
+returns-in-Compare g c =
+    let input = g.S.Source.told c.args.input.now in
+    let old = environment_of (g.F.Files.told c.args.files.now) input (g.K.Sink.told c.args.out.now) (g.K.Sink.holds_back c.args.out.now) in
+    let new = environment_of (g.F.Files.told c.compare_files.new.files) input (g.K.Sink.told c.compare_files.new.out) (g.K.Sink.holds_back c.compare_files.new.out) in
+    let command = compare_view c.in-Compare.command in
+    let answer = c.compare_files.ensures input in
+    status_of_command (map string_bytes c.args.words.now) (compare command) old new c.compare_files.result (sym c.in-Some.ensures ∙ ap (λ x. Some (command_view x)) c.in-Compare.is)
+    answer (compare_is_no_usage command old new c.compare_files.result answer) answer.files_are_kept
+
+pub returns-in_default : goal.returns-in_default
+returns-in_default g c =
+    status_of_no_command (map string_bytes c.args.words.now) (environment g.F.Files g.S.Source g.K.Sink c.args.files.now c.args.input.now c.args.out.now) (sym c.in_default.ensures)

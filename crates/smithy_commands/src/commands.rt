@@ -1,0 +1,66 @@
+//! The commands of the program. Each has a file with its words and with what it does, and a line in each list here.
+ghost use Rattle.std.specs.Prelude.{◌≡◌, map, option_map, string_bytes};
+ghost use Rattle.smithy_outside.specs.Environment.{environment};
+ghost use Rattle.smithy_commands.specs.Command.{command_of, command_view};
+ghost use Rattle.smithy_commands.specs.RunAnswer.{StatusAnswer};
+
+mod compare;
+mod generate;
+mod transcode;
+
+use crate::status::Status;
+use compare::{Compare, compare_files};
+use generate::{Gen, write_generated};
+use smithy_outside::{Files, Sink, Source};
+use std::alloc::Global;
+use transcode::{Transcode, transcode_input};
+
+/// A command of the program.
+#[derive(Clone, Copy)]
+pub enum Command<'a> {
+    /// One body from wire to wire.
+    Transcode(Transcode<'a>),
+    /// An input that a number generates, in both wires.
+    Gen(Gen),
+    /// Two bodies in files, compared as values.
+    Compare(Compare<'a>),
+}
+
+impl<'a> Command<'a> {
+    /// The command that the words are, if they are one.
+    pub fn from_words(words: &'a [String]) -> Option<Command<'a>>
+        ensures { option_map command_view result ≡ command_of (map string_bytes words.now) }
+    {
+        let [keyword, rest @ ..] = words else {
+            return None;
+        };
+        match keyword.as_str() {
+            "transcode" => Some(Command::Transcode(Transcode::from_words(rest)?)),
+            "gen" => Some(Command::Gen(Gen::from_words(rest)?)),
+            "compare" => Some(Command::Compare(Compare::from_words(rest)?)),
+            _ => None,
+        }
+    }
+}
+
+/// Does what the words ask for, and answers how the run ends.
+pub(crate) fn status_of<F: Files, S: Source, K: Sink>(
+    alloc: Global,
+    words: &[String],
+    files: &mut F,
+    input: &mut S,
+    out: &mut K,
+) -> Status
+    ensures { StatusAnswer (map string_bytes words.now)
+        (environment F.Files S.Source K.Sink files.old input.old out.old)
+        (environment F.Files S.Source K.Sink files.new input.new out.new) result }
+{
+    let Some(command) = Command::from_words(words) else {
+        return Status::Usage;
+    };
+    match command {
+        Command::Transcode(command) => transcode_input(alloc, command, files, input, out),
+        Command::Gen(command) => write_generated(alloc, command, out),
+        Command::Compare(command) => compare_files(alloc, command, files, out),
+    }
+}
