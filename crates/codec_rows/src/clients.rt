@@ -1,5 +1,7 @@
 //! Rows of clients' own types, which are read from one wire and written to all.
 
+use crate::json_settings::json_codec;
+use crate::settings::cbor_settings;
 use dynamodb_client::{PutItemInput, read_put_item, write_put_item};
 use reader_calls::answers::{push, push_shown, refused};
 use smithy_cbor_codec::CborCodec;
@@ -118,12 +120,12 @@ pub fn answers(
     let input = row.bytes("input").unwrap_or(b"");
     match row.text("from") {
         Some("json") => {
-            let codec = JsonCodec::strict(false);
+            let codec = json_codec(alloc, row, false)?;
             let mut source = codec.create_deserializer(alloc, input);
             read_and_written(alloc, shapes, name, &mut source)
         }
         Some("cbor") => {
-            let mut source = CborCodec::strict().create_deserializer(alloc, input);
+            let mut source = CborCodec::new(cbor_settings(row)).create_deserializer(alloc, input);
             read_and_written(alloc, shapes, name, &mut source)
         }
         _ => refused(alloc, "no such wire"),

@@ -1,5 +1,5 @@
 //! What PutItem is given.
-ghost use Rattle.std.specs.Prelude.{◌≡◌};
+ghost use Rattle.std.specs.Prelude.{◌≡◌, false};
 ghost use Rattle.smithy_shapes.specs.Site.{site_of};
 ghost use Rattle.smithy_schema.specs.Typed.{ReadsDueAs, WritesWhole};
 ghost use Rattle.smithy_schema.specs.Writing.{events};
@@ -10,7 +10,7 @@ use crate::attribute_value::{AttributeValue, are_attributes, read_attributes};
 use crate::attribute_writing::{member_under, write_attributes};
 use smithy_schema::{
     Accept, Scalar, Schema, SerdeError, ShapeDeserializer, ShapeSerializer, ShapeType,
-    StructConsumer, Target, WriteFields, Written, read_field, write_field,
+    StructConsumer, Target, WriteFields, Written, read_field, read_fields, write_field,
 };
 use std::collections::BTreeMap;
 
@@ -93,14 +93,14 @@ pub fn read_put_item<D: ShapeDeserializer>(
     requires place { IsPutItem (site_of schema.now) }
     ensures same { D.settings source.new ≡ D.settings source.old }
 
-    // What stood there is the structure of these fields, and a fault comes only where no such structure stands.
-    ensures reads { ReadsDueAs (D.reading (D.settings source.old)).wire (D.state source.old) (D.state source.new) (site_of schema.now) (λ input. structure_with (put_item_fields input)) result }
+    // What stood there, nulls of members dropped, is the structure of these fields, and a fault comes only where no such structure stands.
+    ensures reads { ReadsDueAs (D.reading (D.with_nulls false (D.settings source.old))).wire (D.state source.old) (D.state source.new) (site_of schema.now) (λ input. structure_with (put_item_fields input)) result }
 {
     let mut input = PutItemInput {
         table_name: None,
         item: None,
     };
-    source.read_struct(schema, &mut input)?;
+    read_fields(source, schema, &mut input)?;
     Ok(input)
 }
 

@@ -13,7 +13,7 @@ use std::fmt::Display;
 /// Whether a line of a row is a call on a reader.
 pub fn is_call(word: &str) -> bool {
     match word {
-        "fail" | "skip_value" => true,
+        "fail" | "skip_value" | "dispatch_null_members" => true,
         "position" | "is_null" => true,
         "first_two" | "last_long" | "count_members" => true,
         _ => word.starts_with("open_") || word.starts_with("read_"),
@@ -39,6 +39,7 @@ pub fn read_call<R: ShapeDeserializer>(
         }
         "read_null" => return Some(done(alloc, source.read_null(), answers)),
         "skip_value" => return Some(done(alloc, source.skip_value(), answers)),
+        "dispatch_null_members" => return Some(dispatch(alloc, source, text, answers)),
         _ => {}
     }
     let (place, rest) = split(str::from_utf8(text).ok()?);
@@ -73,6 +74,17 @@ fn is_null<R: ShapeDeserializer>(
     answers: &mut Vec<Field>,
 ) -> Result<(), SerdeError> {
     Ok(push_shown(alloc, answers, "is_null", source.is_null())?)
+}
+
+// Hands nulls of members on, or drops them, and adds which was so before.
+fn dispatch<R: ShapeDeserializer>(
+    alloc: Global,
+    source: &mut R,
+    text: &[u8],
+    answers: &mut Vec<Field>,
+) -> Result<(), SerdeError> {
+    let before = source.dispatch_null_members(str::from_utf8(text) == Ok("true"));
+    Ok(push_shown(alloc, answers, "value", before)?)
 }
 
 /// Adds a document, by its text.

@@ -7,14 +7,16 @@ const DEFAULT_MAX_DEPTH: u32 = 128;
 pub struct CborCodecSettings {
     /// How many containers may be open at once.
     pub max_depth: u32,
-    /// Known nulls are dropped, nothing follows an item, and only an empty input is a structure.
+    /// Nothing follows an item, and only an empty input is a structure.
     pub enforce_strictness: bool,
+    /// The null of a member is handed on, and not dropped.
+    pub dispatch_null_members: bool,
     /// Lists and maps whose length is told are written with it.
     pub use_definite_lengths: bool,
 }
 
 impl CborCodecSettings {
-    ghost use Rattle.std.specs.Prelude.{◌≡◌};
+    ghost use Rattle.std.specs.Prelude.{◌≡◌, not};
     ghost use Rattle.smithy_cbor_body.specs.Codec.{held_settings, strict_settings};
     ghost use Rattle.smithy_cbor_body.specs.Lengths.{written_length};
 
@@ -26,6 +28,7 @@ impl CborCodecSettings {
         CborCodecSettings {
             max_depth: DEFAULT_MAX_DEPTH,
             enforce_strictness: true,
+            dispatch_null_members: false,
             use_definite_lengths: false,
         }
     }
@@ -44,6 +47,7 @@ impl CborCodecSettings {
         CborCodecSettings {
             max_depth: value,
             enforce_strictness: self.enforce_strictness,
+            dispatch_null_members: self.dispatch_null_members,
             use_definite_lengths: self.use_definite_lengths,
         }
     }
@@ -54,11 +58,12 @@ impl CborCodecSettings {
     /// structure. Otherwise such a null is handed on, bytes may follow the item, and a structure that is due where the input
     /// ends is one without members. A null under a key that names no member is dropped in any case.
     pub fn enforce_strictness(self, value: bool) -> CborCodecSettings
-        ensures { held_settings result ≡ record (held_settings self) { enforce_strictness = value } }
+        ensures { held_settings result ≡ record (held_settings self) { enforce_strictness = value; dispatch_null_members = not value } }
     {
         CborCodecSettings {
             max_depth: self.max_depth,
             enforce_strictness: value,
+            dispatch_null_members: !value,
             use_definite_lengths: self.use_definite_lengths,
         }
     }
@@ -82,6 +87,7 @@ impl CborCodecSettings {
         CborCodecSettings {
             max_depth: self.max_depth,
             enforce_strictness: self.enforce_strictness,
+            dispatch_null_members: self.dispatch_null_members,
             use_definite_lengths: value,
         }
     }

@@ -147,7 +147,7 @@ first_alone v = values.structure (member_value 0 v no_member_values)
 
 -- the settings of a strict reader
 abbrev pub strict : Settings
-strict = record { max_depth = 128; limits = kept; enforce_strictness = true; use_definite_lengths = false }
+strict = record { max_depth = 128; limits = kept; enforce_strictness = true; dispatch_null_members = false; use_definite_lengths = false }
 
 -- what an item means at the declaration of that number
 abbrev pub means_at : Table → ℕ → Item → Option Value
@@ -159,7 +159,7 @@ would_mean_at t root i = cbor_meaning (without_limits strict) t (shape_place roo
 
 -- what it means where so many containers may stand in one another
 abbrev pub means_within : ℕ → Table → ℕ → Item → Option Value
-means_within max_depth t root i = cbor_meaning (record { max_depth = max_depth; limits = kept; enforce_strictness = true; use_definite_lengths = false }) t (shape_place root) 0 i
+means_within max_depth t root i = cbor_meaning (record { max_depth = max_depth; limits = kept; enforce_strictness = true; dispatch_null_members = false; use_definite_lengths = false }) t (shape_place root) 0 i
 
 -- the canonical encoding of a value of the declaration
 abbrev pub written : Table → ℕ → Value → List ℕ

@@ -126,18 +126,18 @@ placed (m ∷ ms) key n is =
     rw (slice_get-get_or (m ∷ ms) n m there.0) refl
 
 -- a null that is passed over as it is read is dropped under the rules
-passes_in : (strict : Bool) (members : List Member) (key : List ℕ)
-    → (strict || is_none (position_named (λ m. m.name) members key)) ≡ not (not strict && is_some (member_place members (position_named (λ m. m.name) members key)))
-passes_in true members key = refl
-passes_in false members key = by (position_named (λ m. m.name) members key) refl
+passes_in : (dispatched : Bool) (members : List Member) (key : List ℕ)
+    → (not dispatched || is_none (position_named (λ m. m.name) members key)) ≡ not (dispatched && is_some (member_place members (position_named (λ m. m.name) members key)))
+passes_in false members key = refl
+passes_in true members key = by (position_named (λ m. m.name) members key) refl
   where
     by : (n : Option ℕ) → position_named (λ m. m.name) members key ≡ n → is_none n ≡ not (is_some (member_place members n))
     by None is = refl
     by (Some n) is = sym (ap not (placed members key n is))
 
-null_passes : (o : Settings) (k : Kind) → HasMembers k → (key : List ℕ) → passes_null o.enforce_strictness k key ≡ drops_null (rules_of o) k (position_in (rules_of o) k (Some key))
-null_passes o (structure_of members) h key = passes_in o.enforce_strictness members key
-null_passes o (union_of members) h key = passes_in o.enforce_strictness members key
+null_passes : (o : Settings) (k : Kind) → HasMembers k → (key : List ℕ) → passes_null (not o.dispatch_null_members) k key ≡ drops_null (rules_of o) k (position_in (rules_of o) k (Some key))
+null_passes o (structure_of members) h key = passes_in o.dispatch_null_members members key
+null_passes o (union_of members) h key = passes_in o.dispatch_null_members members key
 null_passes o _ h key = absurd h
 
 module _ (o : Settings) (i : List ℕ) (t : Table) (p : Place) (kind : HasMembers (kind_of t p)) (d : ℕ) where
@@ -152,7 +152,7 @@ module _ (o : Settings) (i : List ℕ) (t : Table) (p : Place) (kind : HasMember
       opens_not (frames_of o) (rules_of o) i t p (wire_of o) as_object (members_are_object (kind_of t p) kind) d a (λ b m h. none h.0 b h.2)
       (λ is e over. full is over.0)
 
-  one_passes : (b : ℕ) (m : Mark) (s : List ℕ) (c f : ℕ) (n : Mark) → HasKey i b m s c n → IsPassed o.enforce_strictness (kind_of t p) i (end_depth o.enforce_strictness d) s c f
+  one_passes : (b : ℕ) (m : Mark) (s : List ℕ) (c f : ℕ) (n : Mark) → HasKey i b m s c n → IsPassed (not o.dispatch_null_members) (kind_of t p) i (end_depth o.enforce_strictness d) s c f
       → Drops (frames_of o) (rules_of o) (kind_of t p) as_object i d b m f n
   one_passes b m s c f n (entry, (k, there, is)) (inl (passes, null)) =
       null_is_dropped (frames_of o) (rules_of o) i t p d kind b m (Some k) c n f (entry, (k, there, refl)) (told_as (text_of k) s is)
@@ -162,7 +162,7 @@ module _ (o : Settings) (i : List ℕ) (t : Table) (p : Place) (kind : HasMember
       (ap (is_mark (rules_of o) (kind_of t p)) is ∙ (sym (mark_is o (kind_of t p) kind s) ∙ mark)) ((skips_are o i d c f).0 skipped)
 
   -- what is passed over is dropped
-  drops_all : (count b : ℕ) (m k : Mark) (e : ℕ) (n : Mark) → m.due ≡ k.due → Passes o.enforce_strictness (kind_of t p) count i (end_depth o.enforce_strictness d) b m e n
+  drops_all : (count b : ℕ) (m k : Mark) (e : ℕ) (n : Mark) → m.due ≡ k.due → Passes (not o.dispatch_null_members) (kind_of t p) count i (end_depth o.enforce_strictness d) b m e n
       → (j : Mark) × (n.due ≡ j.due) × DropsAll (frames_of o) (rules_of o) (kind_of t p) as_object count i d b k e j
   drops_all zero b m k e n same h = (k, ap (λ (x : Mark). x.due) (sym h.1) ∙ same, (h.0, refl))
   drops_all (suc count) b m k e n same (s, c, f, l, key, passed, more) =
@@ -170,7 +170,7 @@ module _ (o : Settings) (i : List ℕ) (t : Table) (p : Place) (kind : HasMember
       (rest.0, rest.1, (f, l, one_passes b k s c f l (key_by_due i b m k s c l same key) passed, rest.2))
 
   -- behind what is passed over comes an entry that is handed on
-  pub steps_to_member : (b : ℕ) (m : Mark) (s : List ℕ) (c : ℕ) (n : Mark) → StepsToMember o.enforce_strictness (kind_of t p) i (end_depth o.enforce_strictness d) b (mark_with m.due) s c n
+  pub steps_to_member : (b : ℕ) (m : Mark) (s : List ℕ) (c : ℕ) (n : Mark) → StepsToMember (not o.dispatch_null_members) (kind_of t p) i (end_depth o.enforce_strictness d) b (mark_with m.due) s c n
       → (cbor_relations o).steps i t p d b m (Some s) c n
   steps_to_member b m s c n (count, at, k, passes, key, (unmarked, real)) =
       let (j, same, all) = drops_all count b (mark_with m.due) m at k refl passes in
@@ -179,7 +179,7 @@ module _ (o : Settings) (i : List ℕ) (t : Table) (p : Place) (kind : HasMember
       (sym (mark_is o (kind_of t p) kind s) ∙ unmarked) (λ e null. sym (null_passes o (kind_of t p) kind s) ∙ real e null)
 
   -- or it ends
-  pub closes_members : (b : ℕ) (m : Mark) (e : ℕ) → ClosesMembers o.enforce_strictness (kind_of t p) i (end_depth o.enforce_strictness d) b (mark_with m.due) e → FollowsInside o.enforce_strictness d i e
+  pub closes_members : (b : ℕ) (m : Mark) (e : ℕ) → ClosesMembers (not o.dispatch_null_members) (kind_of t p) i (end_depth o.enforce_strictness d) b (mark_with m.due) e → FollowsInside o.enforce_strictness d i e
       → (cbor_relations o).closes i t p d b m e
   closes_members b m e (count, at, k, passes, over) follows =
       let (j, same, all) = drops_all count b (mark_with m.due) m at k refl passes in
@@ -227,7 +227,7 @@ module _ (o : Settings) (i : List ℕ) (t : Table) (p : Place) (kind : HasMember
         entry_or_over i at (mark_with due) mark.after e mark.key.0 (over_by_due i at j (mark_with due) e (sym same) over)
 
   -- where behind what is passed over neither such an entry nor the end comes, it can't go on
-  pub members_are_stuck : (count b : ℕ) (m : Mark) (at : ℕ) (after : Option ℕ) → Passes o.enforce_strictness (kind_of t p) count i (end_depth o.enforce_strictness d) b (mark_with m.due) at (mark_with after)
+  pub members_are_stuck : (count b : ℕ) (m : Mark) (at : ℕ) (after : Option ℕ) → Passes (not o.dispatch_null_members) (kind_of t p) count i (end_depth o.enforce_strictness d) b (mark_with m.due) at (mark_with after)
       → EntryMissing (kind_of t p) i at after (end_depth o.enforce_strictness d) → (IsStructure (kind_of t p) → m ≡ end_mark → RestIsEmpty o.enforce_strictness i b → 0 < d → ⊥)
       → ((key : Option (List ℕ)) (c : ℕ) (n : Mark) → (cbor_relations o).steps i t p d b m key c n → ⊥)
       × ((e : ℕ) → (cbor_relations o).closes i t p d b m e → ⊥)
@@ -239,7 +239,7 @@ module _ (o : Settings) (i : List ℕ) (t : Table) (p : Place) (kind : HasMember
       (λ is at_end e over some. full is at_end over.0 some)
 
   -- where it is over behind what is passed over, and may not end there, it can't go on either
-  pub members_are_shut : (b : ℕ) (m : Mark) (end : ℕ) → ClosesMembers o.enforce_strictness (kind_of t p) i (end_depth o.enforce_strictness d) b (mark_with m.due) end
+  pub members_are_shut : (b : ℕ) (m : Mark) (end : ℕ) → ClosesMembers (not o.dispatch_null_members) (kind_of t p) i (end_depth o.enforce_strictness d) b (mark_with m.due) end
       → (FollowsInside o.enforce_strictness d i end → ⊥) → (IsStructure (kind_of t p) → m ≡ end_mark → RestIsEmpty o.enforce_strictness i b → 0 < d → ⊥)
       → ((key : Option (List ℕ)) (c : ℕ) (n : Mark) → (cbor_relations o).steps i t p d b m key c n → ⊥)
       × ((e : ℕ) → (cbor_relations o).closes i t p d b m e → ⊥)

@@ -92,6 +92,12 @@ impl ShapeDeserializer for CborDeserializer<'_> {
 
     ghost sizes = { λ _. cbor_sizes };
 
+    ghost dispatches_nulls = { λ c. c.dispatch_null_members };
+
+    ghost with_nulls = { λ value c. record c { dispatch_null_members = value } };
+
+    ghost sets_back = { λ c value. refl };
+
     fn allocator(&self) -> Global {
         self.alloc
     }
@@ -102,6 +108,12 @@ impl ShapeDeserializer for CborDeserializer<'_> {
 
     fn fail(&mut self) {
         self.walk.failed = true;
+    }
+
+    fn dispatch_null_members(&mut self, value: bool) -> bool {
+        let before = self.settings.dispatch_null_members;
+        self.settings.dispatch_null_members = value;
+        before
     }
 
     fn open_struct(&mut self, schema: &Schema<'_>) -> Result<(), SerdeError> {

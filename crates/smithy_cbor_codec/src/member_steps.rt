@@ -59,7 +59,7 @@ impl CborDeserializer<'_> {
             self.walk.inner.mark.due,
             self.end_depth(),
             schema,
-            self.settings.enforce_strictness,
+            !self.settings.dispatch_null_members,
         ) {
             Ok(Some(Next::Pair(name, value, due))) => {
                 let step = step_to(schema, name.as_str());

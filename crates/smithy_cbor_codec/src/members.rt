@@ -44,11 +44,11 @@ fn is_mark(schema: &Schema<'_>, key: &str) -> bool
     key == "__type" && schema.member_schema(key).is_none()
 }
 
-// Whether a null under the key is passed over: each where the reading is strict, and else under a key that names no member.
-fn passes_null(schema: &Schema<'_>, key: &str, strict: bool) -> bool
-    ensures { result ≡ passes_null strict (kind_at (site_of schema.now)) key.now }
+// Whether a null under the key is passed over: each where nulls are dropped, and else under a key that names no member.
+fn passes_null(schema: &Schema<'_>, key: &str, drops_nulls: bool) -> bool
+    ensures { result ≡ passes_null drops_nulls (kind_at (site_of schema.now)) key.now }
 {
-    strict || schema.member_schema(key).is_none()
+    drops_nulls || schema.member_schema(key).is_none()
 }
 
 // What comes next in the map inside of which the offset lies: a key with the place of its value, or the end of the map.
@@ -83,15 +83,15 @@ fn entry_at<'a>(
     due: Option<u64>,
     depth: usize,
     schema: &Schema<'_>,
-    strict: bool,
+    drops_nulls: bool,
 ) -> Result<Option<Entry<'a>>, AllocError>
     requires { at ≤ length input.now }
-    ensures { IfOk result (λ o. MatchOption o (EntryMissing (kind_at (site_of schema.now)) input.now at due depth) (IsEntry strict (kind_at (site_of schema.now)) input.now at due depth)) }
+    ensures { IfOk result (λ o. MatchOption o (EntryMissing (kind_at (site_of schema.now)) input.now at due depth) (IsEntry drops_nulls (kind_at (site_of schema.now)) input.now at due depth)) }
 {
     match next_in_map(alloc, input, at, due)? {
         Some(Next::Pair(key, value, after)) => {
             if let Some(end) = null_end(input, value, depth) {
-                if passes_null(schema, key.as_str(), strict) {
+                if passes_null(schema, key.as_str(), drops_nulls) {
                     return Ok(Some(Entry::Passed(end, after)));
                 }
                 return Ok(Some(Entry::Kept(Next::Pair(key, value, after))));
@@ -117,15 +117,15 @@ pub(crate) fn next_present<'a>(
     due: Option<u64>,
     depth: usize,
     schema: &Schema<'_>,
-    strict: bool,
+    drops_nulls: bool,
 ) -> Result<Option<Next<'a>>, AllocError>
     requires { at ≤ length input.now }
-    ensures { IfOk result (λ o. MatchOption o (NothingComes strict (kind_at (site_of schema.now)) input.now at due depth) (IsNext strict (kind_at (site_of schema.now)) input.now at due depth)) }
+    ensures { IfOk result (λ o. MatchOption o (NothingComes drops_nulls (kind_at (site_of schema.now)) input.now at due depth) (IsNext drops_nulls (kind_at (site_of schema.now)) input.now at due depth)) }
 {
     let mut at = at;
     let mut due = due;
     loop {
-        match entry_at(alloc, input, at, due, depth, schema, strict)? {
+        match entry_at(alloc, input, at, due, depth, schema, drops_nulls)? {
             Some(Entry::Passed(end, after)) => {
                 at = end;
                 due = after;

@@ -1,6 +1,6 @@
 -- What an item means at a place of a table (the protocol smithy.protocols#rpcv2Cbor): what its node means under
 -- the rules of CBOR.
-use Rattle.std.specs.Prelude.{ℕ, ◌==◌, Option, Some, None, Bool, true, false, ◌&&◌, not, is_some, if◌then◌else◌}
+use Rattle.std.specs.Prelude.{ℕ, ◌==◌, Option, Some, None, Bool, true, false, ◌&&◌, is_some, if◌then◌else◌}
 use Rattle.smithy_declarations.specs.declared.place.Place.{Place}
 use Rattle.smithy_declarations.specs.Table.{Table}
 use Rattle.smithy_declarations.specs.Value.{Value}
@@ -28,9 +28,9 @@ abbrev mutual
   pair_nodes no_pairs = no_nodes
   pair_nodes (pair k v ps) = node (Some k) (node_of v) (pair_nodes ps)
 
--- A null is handed on under the key of a member, where nothing is strict, and under no other key.
+-- A null is handed on under the key of a member, where the settings say so, and under no other key.
 abbrev pub keeps_null : Settings → Option Place → Bool
-keeps_null c place = not c.enforce_strictness && is_some place
+keeps_null c place = c.dispatch_null_members && is_some place
 
 -- the rules of CBOR under some settings: what is skipped doesn't count as depth, no document is
 -- carried, and no refusal tells the type

@@ -5,8 +5,10 @@ pub use Rattle.smithy_shapes.specs.Limits.{Limits, kept, lifted, is_within}
 pub record Settings : Type 0 where
   pub max_depth : ℕ
   pub limits : Limits
-  -- known nulls of structures and unions are dropped, nothing follows an item, and only an empty input is a structure
+  -- nothing follows an item, and only an empty input is a structure
   pub enforce_strictness : Bool
+  -- a null of a structure or a union is handed on under the key of a member
+  pub dispatch_null_members : Bool
   -- lists and maps whose length is told are written with it
   pub use_definite_lengths : Bool
 

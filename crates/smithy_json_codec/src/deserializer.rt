@@ -79,6 +79,12 @@ impl ShapeDeserializer for JsonDeserializer<'_, '_> {
 
     ghost sizes = { λ _. json_sizes };
 
+    ghost dispatches_nulls = { λ c. c.json.dispatch_null_members };
+
+    ghost with_nulls = { λ value c. record c { json = record c.json { dispatch_null_members = value } } };
+
+    ghost sets_back = { λ c value. refl };
+
     fn allocator(&self) -> Global {
         self.alloc
     }
@@ -89,6 +95,12 @@ impl ShapeDeserializer for JsonDeserializer<'_, '_> {
 
     fn fail(&mut self) {
         self.walk.failed = true;
+    }
+
+    fn dispatch_null_members(&mut self, value: bool) -> bool {
+        let before = self.settings.dispatch_null_members;
+        self.settings.dispatch_null_members = value;
+        before
     }
 
     fn open_struct(&mut self, schema: &Schema<'_>) -> Result<(), SerdeError> {

@@ -11,7 +11,8 @@ pub enum SerdeError {
     /// No value of the wanted kind stands here, no value is due, or one was left unread.
     #[error("InvalidInput")]
     InvalidInput,
-    /// What comes here doesn't begin as a value of the wanted kind does. Only JSON tells it, and never of integers and documents.
+    /// What comes here doesn't begin as a value of the wanted kind does. Only JSON tells it, of integers only where reading is lenient,
+    /// and never of documents.
     #[error("TypeMismatch")]
     TypeMismatch,
     /// The call opens one container more than the codec's depth allows, or reads a document that nests deeper.

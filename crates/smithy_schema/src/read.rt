@@ -1,5 +1,5 @@
 //! Reading a value as a schema directs.
-ghost use Rattle.std.specs.Prelude.{◌≡◌, ◌≤◌, length, true, false, IfOk, OnOk, IsErrOf, IsErr, string_bytes, FitsSigned};
+ghost use Rattle.std.specs.Prelude.{◌≡◌, ◌≤◌, length, Bool, true, false, IfOk, OnOk, IsErrOf, IsErr, string_bytes, FitsSigned};
 ghost use Rattle.std.specs.Int.{w128};
 ghost use Rattle.smithy_texts.specs.Numeral.{number};
 ghost use Rattle.smithy_texts.specs.Decimal.{mantissa, net_exponent};
@@ -44,6 +44,11 @@ pub trait ShapeDeserializer {
     // What the wire tells of the sizes of containers before they are read.
     ghost sizes: { Settings → Sizes };
 
+    // Whether the null of a member is handed on under the settings, and the settings under which it is or isn't, and which are these else.
+    ghost dispatches_nulls: { Settings → Bool };
+
+    ghost with_nulls: { Bool → Settings → Settings };
+
     /// What the reader takes memory from.
     fn allocator(&self) -> Global;
 
@@ -56,6 +61,13 @@ pub trait ShapeDeserializer {
     fn fail(&mut self)
         ensures same { settings self.new ≡ settings self.old }
         ensures fails { state self.new ≡ failed_at (state self.old) };
+
+    /// Hands on the null of a member from now on, or drops it, whatever the codec was asked for. A caller that calls it for a while sets
+    /// back what it answers, which is what held before.
+    fn dispatch_null_members(&mut self, value: bool) -> bool
+        ensures set { settings self.new ≡ with_nulls value (settings self.old) }
+        ensures stays { state self.new ≡ state self.old }
+        ensures before { result ≡ dispatches_nulls (settings self.old) };
 
     /// Enters the structure or the union that is due. Where one begins here, it is `TooDeep` exactly at the greatest depth.
     fn open_struct(&mut self, schema: &Schema<'_>) -> Result<(), SerdeError>
@@ -316,6 +328,9 @@ pub trait ShapeDeserializer {
     {
         read_texts(self, schema)
     }
+
+    // What held before can be set back.
+    ghost sets_back: { (c : Settings) (value : Bool) → with_nulls (dispatches_nulls c) (with_nulls value c) ≡ c };
 
     // Each wire obeys the laws of reading, with its limits and with them lifted.
     ghost lawful: { (c : Settings) → IsLawful (reading c).wire };

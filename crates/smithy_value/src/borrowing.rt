@@ -31,6 +31,7 @@ impl<'s, 'a, D> Borrowing<'s, 'a, D> {
 
 impl<D: ShapeDeserializer> ShapeDeserializer for Borrowing<'_, '_, D> {
     ghost use Rattle.std.specs.Prelude.{ℕ};
+    ghost use Rattle.std.proofs.Common.{ap};
 
     // The name tells a caller that the reference is still the one that it passed.
     ghost Settings = { D.Settings × ℕ };
@@ -42,6 +43,12 @@ impl<D: ShapeDeserializer> ShapeDeserializer for Borrowing<'_, '_, D> {
     ghost reading = { λ c. D.reading c.0 };
 
     ghost sizes = { λ c. D.sizes c.0 };
+
+    ghost dispatches_nulls = { λ c. D.dispatches_nulls c.0 };
+
+    ghost with_nulls = { λ value c. (D.with_nulls value c.0, c.1) };
+
+    ghost sets_back = { λ c value. ap (λ (s : D.Settings). (s, c.1)) (D.sets_back c.0 value) };
 
     ghost lawful = { λ c. D.lawful c.0 };
 
@@ -66,6 +73,11 @@ impl<D: ShapeDeserializer> ShapeDeserializer for Borrowing<'_, '_, D> {
     #[inline(always)]
     fn fail(&mut self) {
         self.source.fail();
+    }
+
+    #[inline(always)]
+    fn dispatch_null_members(&mut self, value: bool) -> bool {
+        self.source.dispatch_null_members(value)
     }
 
     #[inline(always)]

@@ -1,8 +1,8 @@
 //! Reading a value tree from any wire.
-ghost use Rattle.std.specs.Prelude.{◌≡◌, true, OnErr};
+ghost use Rattle.std.specs.Prelude.{◌≡◌, true, false, OnErr};
 ghost use Rattle.smithy_declarations.specs.Table.{type_of, IsStructure, IsUnion, IsList, IsMap};
 ghost use Rattle.smithy_shapes.specs.Site.{site_of, kind_at};
-ghost use Rattle.smithy_value.specs.ReadTree.{ReadsBy, ReadsTree};
+ghost use Rattle.smithy_value.specs.ReadTree.{ReadsBy, ReadsUnder, ReadsTree};
 ghost use Rattle.smithy_value.specs.View.{view};
 ghost use Rattle.smithy_value.specs.Private.Rare.{IsRare};
 
@@ -14,8 +14,26 @@ use smithy_schema::{BorrowDeserializer, PieceDeserializer, Schema, SerdeError, S
 use std::alloc::Global;
 
 /// Reads the value of the schema that is due, whatever the wire. Its texts and bytes borrow from the input of the reader, which they
-/// may outlive. After an error the reader has failed.
+/// may outlive. A null of a member is as good as not there: it is dropped, also where the codec hands it on. After an error the reader
+/// has failed.
 pub fn read_value<'a, D: BorrowDeserializer<'a>>(
+    alloc: Global,
+    source: &mut D,
+    schema: &Schema<'_>,
+) -> Result<Value<'a>, SerdeError>
+    requires due { (D.state source.old).due ≡ true }
+    ensures same { D.settings source.new ≡ D.settings source.old }
+    ensures reads { ReadsUnder D.ShapeDeserializer (D.with_nulls false (D.settings source.old)) source.old source.new (site_of schema.now) view result }
+    ensures broken { OnErr result ((D.state source.new).failed ≡ true) }
+{
+    let dispatched = source.dispatch_null_members(false);
+    let value = read_borrowed(alloc, source, schema);
+    source.dispatch_null_members(dispatched);
+    value
+}
+
+// The same under the settings as they are.
+fn read_borrowed<'a, D: BorrowDeserializer<'a>>(
     alloc: Global,
     source: &mut D,
     schema: &Schema<'_>,

@@ -1,5 +1,5 @@
 //! What AssumeRole is given.
-ghost use Rattle.std.specs.Prelude.{◌≡◌};
+ghost use Rattle.std.specs.Prelude.{◌≡◌, false};
 ghost use Rattle.smithy_shapes.specs.Site.{site_of};
 ghost use Rattle.smithy_schema.specs.Typed.{ReadsDueAs, WritesWhole};
 ghost use Rattle.smithy_schema.specs.Writing.{events};
@@ -9,7 +9,7 @@ ghost use Rattle.sts_client.specs.Shapes.{IsRequest, request_fields};
 use crate::tags::{Tag, are_tags, read_tags};
 use smithy_schema::{
     Accept, Scalar, Schema, SerdeError, ShapeDeserializer, ShapeSerializer, ShapeType,
-    StructConsumer, Target, WriteFields, Written, read_field, write_field,
+    StructConsumer, Target, WriteFields, Written, read_field, read_fields, write_field,
 };
 
 /// A role to take on for a while.
@@ -111,8 +111,8 @@ pub fn read_request<D: ShapeDeserializer>(
     requires place { IsRequest (site_of schema.now) }
     ensures same { D.settings source.new ≡ D.settings source.old }
 
-    // What stood there is the structure of these fields, and a fault comes only where no such structure stands.
-    ensures reads { ReadsDueAs (D.reading (D.settings source.old)).wire (D.state source.old) (D.state source.new) (site_of schema.now) (λ request. structure_with (request_fields request)) result }
+    // What stood there, nulls of members dropped, is the structure of these fields, and a fault comes only where no such structure stands.
+    ensures reads { ReadsDueAs (D.reading (D.with_nulls false (D.settings source.old))).wire (D.state source.old) (D.state source.new) (site_of schema.now) (λ request. structure_with (request_fields request)) result }
 {
     let mut request = AssumeRoleRequest {
         role_arn: None,
@@ -121,7 +121,7 @@ pub fn read_request<D: ShapeDeserializer>(
         duration_seconds: None,
         tags: None,
     };
-    source.read_struct(schema, &mut request)?;
+    read_fields(source, schema, &mut request)?;
     Ok(request)
 }
 

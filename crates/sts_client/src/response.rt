@@ -1,5 +1,5 @@
 //! What AssumeRole answers.
-ghost use Rattle.std.specs.Prelude.{◌≡◌, OnOk};
+ghost use Rattle.std.specs.Prelude.{◌≡◌, false, OnOk};
 ghost use Rattle.smithy_shapes.specs.Site.{site_of};
 ghost use Rattle.smithy_schema.specs.Consuming.{IsTaken};
 ghost use Rattle.smithy_schema.specs.Typed.{ReadsDueAs, WritesWhole};
@@ -10,8 +10,8 @@ ghost use Rattle.sts_client.specs.Shapes.{IsUser, user_fields, IsResponse, respo
 use crate::credentials::{Credentials, read_credentials};
 use smithy_schema::{
     Accept, Scalar, Schema, SerdeError, ShapeDeserializer, ShapeSerializer, ShapeType,
-    StructConsumer, Target, WriteFields, WriteMember, Written, read_field, write_field,
-    write_structure,
+    StructConsumer, Target, WriteFields, WriteMember, Written, read_field, read_fields,
+    write_field, write_structure,
 };
 
 /// Who takes on the role.
@@ -201,8 +201,8 @@ pub fn read_response<D: ShapeDeserializer>(
     requires place { IsResponse (site_of schema.now) }
     ensures same { D.settings source.new ≡ D.settings source.old }
 
-    // What stood there is the structure of these fields, and a fault comes only where no such structure stands.
-    ensures reads { ReadsDueAs (D.reading (D.settings source.old)).wire (D.state source.old) (D.state source.new) (site_of schema.now) (λ response. structure_with (response_fields response)) result }
+    // What stood there, nulls of members dropped, is the structure of these fields, and a fault comes only where no such structure stands.
+    ensures reads { ReadsDueAs (D.reading (D.with_nulls false (D.settings source.old))).wire (D.state source.old) (D.state source.new) (site_of schema.now) (λ response. structure_with (response_fields response)) result }
 {
     let mut response = AssumeRoleResponse {
         credentials: None,
@@ -210,7 +210,7 @@ pub fn read_response<D: ShapeDeserializer>(
         packed_policy_size: None,
         source_identity: None,
     };
-    source.read_struct(schema, &mut response)?;
+    read_fields(source, schema, &mut response)?;
     Ok(response)
 }
 

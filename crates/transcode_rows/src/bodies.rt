@@ -20,6 +20,8 @@ struct Body<'a> {
     from: &'a Wire,
     input: &'a [u8],
     to: &'a Wire,
+    // A value is read by a codec that hands nulls of members on.
+    dispatching: bool,
 }
 
 fn refused(alloc: Global, error: &str) -> Result<Field, AllocError> {
@@ -88,7 +90,12 @@ fn by_value(alloc: Global, asked: &Body<'_>, whether: bool) -> Result<Field, All
     let ShapeType::Structure = shapes.schema(root).shape_type() else {
         return refused(alloc, "no structure");
     };
-    let value = match values::read(alloc, shapes, root, asked.from, asked.input) {
+    let read = if asked.dispatching {
+        values::read_dispatching(alloc, shapes, root, asked.from, asked.input)
+    } else {
+        values::read(alloc, shapes, root, asked.from, asked.input)
+    };
+    let value = match read {
         Ok(value) => value,
         Err(error) => return written(alloc, Err(error)),
     };
@@ -143,6 +150,7 @@ pub fn answers(alloc: Global, rows: &Rows, row: &Row) -> Result<Vec<Field>, Allo
         from: &from,
         input: row.bytes("input").unwrap_or(b""),
         to: &to,
+        dispatching: row.bytes("dispatching").is_some(),
     };
     if row.bytes("call").is_some() {
         return written_alone(alloc, &asked);

@@ -5,7 +5,7 @@ ghost use Rattle.smithy_declarations.specs.Table.{IsStructure, kind_of, shape_pl
 ghost use Rattle.smithy_value.specs.View.{view};
 
 use smithy_cbor_codec::{CborCodec, CborCodecSettings};
-use smithy_json_codec::JsonCodec;
+use smithy_json_codec::{JsonCodec, JsonCodecSettings};
 use smithy_query_codec::QueryShapeSerializer;
 use smithy_schema::{BorrowDeserializer, FinishSerializer, SerdeError, ShapeRef, Shapes};
 use smithy_transcode::{Value, Wire, read_value, write_value};
@@ -24,6 +24,34 @@ fn read_by<'a, D: BorrowDeserializer<'a>>(
 {
     let schema = shapes.schema(root);
     read_value(alloc, source, &schema)
+}
+
+/// The same by a codec that hands nulls of members on.
+pub fn read_dispatching<'a>(
+    alloc: Global,
+    shapes: &Shapes,
+    root: ShapeRef,
+    from: &Wire,
+    input: &'a [u8],
+) -> Result<Value<'a>, SerdeError>
+    requires root { IsStructure (kind_of shapes.now (shape_place root.0)) }
+    ensures { IfOk result (λ v. Fits shapes.now (shape_place root.0) (view v)) }
+{
+    match from {
+        Wire::Json { .. } => {
+            let settings = JsonCodecSettings::builder()
+                .dispatch_null_members(true)
+                .build();
+            let codec = JsonCodec::new(settings);
+            let mut source = codec.create_deserializer(alloc, input);
+            read_by(alloc, shapes, root, &mut source)
+        }
+        Wire::Cbor { .. } => {
+            let mut source = CborCodec::default().create_deserializer(alloc, input);
+            read_by(alloc, shapes, root, &mut source)
+        }
+        Wire::Query { .. } => Err(SerdeError::InvalidInput),
+    }
 }
 
 /// The value that the input spells. Forms aren't read.

@@ -8,7 +8,7 @@ use Rattle.smithy_cbor_codec.proofs.members.next_present.Given as goal
 abbrev pub invariant-loop-end : goal.invariant-loop-end
 invariant-loop-end l = record {
   within : l.at ≤ length l.input;
-  passes : (count : ℕ) × Passes l.strict (kind_at (site_of l.schema)) count l.input l.depth (l.fn.at) (mark_with l.fn.due) l.at (mark_with l.due);
+  passes : (count : ℕ) × Passes l.drops_nulls (kind_at (site_of l.schema)) count l.input l.depth (l.fn.at) (mark_with l.fn.due) l.at (mark_with l.due);
 }
 
 abbrev pub decreases-loop-end : goal.decreases-loop-end

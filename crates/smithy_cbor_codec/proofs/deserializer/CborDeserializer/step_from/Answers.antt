@@ -1,4 +1,5 @@
 use Rattle.std.proofs.Common.{◌≤◌, length, arith, ap, ◌∙◌, inr, refl, rules}
+use Rattle.std.specs.Prelude.{not}
 use Rattle.std.proofs.lemmas.Grind.{common_steps}
 use Rattle.smithy_shapes.specs.Site.{site_of, kind_at}
 use Rattle.smithy_cbor_codec.specs.Cursor.{cursor_of, reading_settings_of}
@@ -16,7 +17,7 @@ pub leave-requires-then-may_leave_at-clause-within : goal.leave-requires-then-ma
 leave-requires-then-may_leave_at-clause-within c =
     let next = rw (c.in-Ok-Some-End.field-0-is, c.in-Ok-Some-End.field-0-0-is) at c.in-Ok-Some-End.ensures in
     let old = cursor_of c.args.self.now in
-    (end_place (reading_settings_of c.args.self.now).enforce_strictness (kind_at (site_of c.args.schema.now)) old.input c.end_depth.result c.args.at (mark_with old.inner.mark.due) c.in-Ok-Some-End.end c.requires.within next).1
+    (end_place (not (reading_settings_of c.args.self.now).dispatch_null_members) (kind_at (site_of c.args.schema.now)) old.input c.end_depth.result c.args.at (mark_with old.inner.mark.due) c.in-Ok-Some-End.end c.requires.within next).1
 
 pub returns-then-ends_empty-clause-steps : goal.returns-then-ends_empty-clause-steps
 returns-then-ends_empty-clause-steps c =
@@ -38,7 +39,7 @@ returns-in-Ok-Some-Pair-clause-steps c =
     let new = walk_cursor c.go_on.new.self in
     let site = site_of c.args.schema.now in
     let value = c.in-Ok-Some-Pair.value in
-    let place = value_place o.enforce_strictness (kind_at site) old.input c.end_depth.result c.args.at (mark_with old.inner.mark.due) _ value (mark_with c.in-Ok-Some-Pair.due) next in
+    let place = value_place (not o.dispatch_null_members) (kind_at site) old.input c.end_depth.result c.args.at (mark_with old.inner.mark.due) _ value (mark_with c.in-Ok-Some-Pair.due) next in
     let gone = c.go_on.ensures.gone ∙ ap (λ f. gone_on_to old value f) c.frame.ensures in
     let leads : StepsTo c.step_to-step.result site c.as_str.result.now = c.step_to-step.ensures in
     stepped _ _ _ site old new c.args.at c.step_to-step.result
@@ -54,7 +55,7 @@ returns-then-may_leave_at-clause-steps c =
     let site = site_of c.args.schema.now in
     let end = c.in-Ok-Some-End.end in
     let left = c.leave-then-may_leave_at.ensures in
-    let place = end_place o.enforce_strictness (kind_at site) old.input c.end_depth.result c.args.at (mark_with old.inner.mark.due) end c.requires.within next in
+    let place = end_place (not o.dispatch_null_members) (kind_at site) old.input c.end_depth.result c.args.at (mark_with old.inner.mark.due) end c.requires.within next in
     stepped _ _ _ site old new c.args.at _
     (goes_ahead _ old new _ end c.requires.sound left.at left.input (omega (arith, c.requires.ahead, place.0)) place.1)
     (leaves_at o old new c.args.at site c.requires.place end
