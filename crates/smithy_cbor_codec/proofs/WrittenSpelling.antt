@@ -15,6 +15,7 @@ use Rattle.smithy_cbor_values.specs.Meaning.{rules_of}
 use Rattle.smithy_cbor_values.specs.Settings.{Settings, kept}
 use Rattle.smithy_cbor_values.specs.Spelling.{cbor_spells}
 use Rattle.smithy_cbor_values.specs.Standing.{cbor_frames}
+use Rattle.smithy_cbor_values.specs.Private.Wire.{cbor_is_wire}
 use Rattle.smithy_wire.specs.Laws.{stands_fit}
 use Rattle.smithy_wire.specs.Written.{written_node}
 use Rattle.smithy_wire.specs.Writes.{Stand}
@@ -29,7 +30,7 @@ use Rattle.smithy_cbor_body.proofs.WrittenPlaces.{cbor_writes}
 
 -- what is spelled is a value of the place
 pub spelled_fits : (c : Settings) (t : Table) (p : Place) (bytes : List ℕ) (v : Value) → c.limits ≡ kept → cbor_spells c t p bytes v → Fits t p v
-spelled_fits c t p bytes v keeps h = let s = spells_stands c t p bytes v h in (stands_fit (cbor_frames true) (rules_of c) keeps (rules_fit true c)).fits bytes t p 0 0 v s.0 s.1
+spelled_fits c t p bytes v keeps h = let s = spells_stands c t p bytes v h in (stands_fit (cbor_frames true) (rules_of c) (cbor_is_wire true) keeps (rules_fit true c)).fits bytes t p 0 0 v s.0 s.1
 
 -- and nests no deeper than the greatest depth
 pub shallow : (c : Settings) (t : Table) (p : Place) (bytes : List ℕ) (v : Value) → c.limits ≡ kept → cbor_spells c t p bytes v → nesting v ≤ c.max_depth

@@ -25,9 +25,9 @@ rules_fit strict c = record {
   key_fits = λ i b m key c n text entry. text_is_utf8 key text;
 }
 
--- what stands with the limits kept is a value of its place
+-- what stands with the limits kept is a value of its place, with bytes for all values inside of it
 pub fit : (c : Settings) → c.limits ≡ kept → StandsFit (cbor_relations c)
-fit c keeps = wire.stands_fit (frames_of c) (rules_of c) keeps (rules_fit c.enforce_strictness c)
+fit c keeps = wire.stands_fit (frames_of c) (rules_of c) (wire_of c) keeps (rules_fit c.enforce_strictness c)
 
 -- containers are counted, where no structure is missing behind other bytes
 pub counts : (c : Settings) → c.enforce_strictness ≡ true → CountsOpeners (cbor_relations c)

@@ -12,6 +12,7 @@ use Rattle.smithy_json_codec.specs.Canonical.{json_holds, canonical_json}
 use Rattle.smithy_json_codec.specs.WireSettings.{wire_settings}
 use Rattle.smithy_json_values.specs.Codec.{strict_settings}
 use Rattle.smithy_json_values.specs.Private.TokenLaws.{fit_by_standard}
+use Rattle.smithy_json_values.specs.Private.Wire.{json_is_wire}
 use Rattle.smithy_json_values.specs.Settings.{Settings, kept, name_of}
 use Rattle.smithy_json_values.specs.Spelling.{json_spells}
 use Rattle.smithy_json_values.specs.Standing.{json_frames, standard_rules}
@@ -28,7 +29,7 @@ use Rattle.smithy_json_codec.proofs.WrittenPlaces.{json_writes, json_writes_fram
 
 -- what is spelled is a value of the place
 pub spelled_fits : (c : Settings) (t : Table) (p : Place) (bytes : List ℕ) (v : Value) → c.limits ≡ kept → json_spells c t p bytes v → Fits t p v
-spelled_fits c t p bytes v keeps h = let s = spells_stands c t p bytes v h in (stands_fit json_frames (standard_rules c) keeps (fit_by_standard c)).fits bytes t p 0 0 v s.0 s.1
+spelled_fits c t p bytes v keeps h = let s = spells_stands c t p bytes v h in (stands_fit json_frames (standard_rules c) json_is_wire keeps (fit_by_standard c)).fits bytes t p 0 0 v s.0 s.1
 
 -- and nests no deeper than the greatest depth
 pub shallow : (c : Settings) (t : Table) (p : Place) (bytes : List ℕ) (v : Value) → c.limits ≡ kept → json_spells c t p bytes v → nesting v ≤ c.max_depth

@@ -14,6 +14,7 @@ use Rattle.smithy_json_values.specs.Standing.{json_grammar, json_rules, json_rel
 use Rattle.smithy_json_values.specs.Documents.{depth_limit, DocumentStands}
 use Rattle.smithy_json_values.specs.Private.DocumentNodes as documents
 use Rattle.smithy_json_values.specs.Private.TokenLaws as tokens
+use Rattle.smithy_json_values.specs.Private.Wire.{tokens_are_wire}
 use Rattle.smithy_declarations.specs.Value.{document_value}
 use Rattle.smithy_wire.specs.Wire.{RulesFit}
 use Rattle.smithy_wire.specs.Laws as wire
@@ -26,9 +27,9 @@ lawful c = tokens.lawful (json_grammar c) c
 pub rules_fit : (c : Settings) → RulesFit (frames_of (json_grammar c)) (json_rules c)
 rules_fit = tokens.fit_by_settings
 
--- what stands with the limits kept is a value of its place
+-- what stands with the limits kept is a value of its place, with bytes for all values inside of it
 pub fit : (c : Settings) → c.limits ≡ kept → StandsFit (json_relations c)
-fit c keeps = wire.stands_fit (frames_of (json_grammar c)) (json_rules c) keeps (rules_fit c)
+fit c keeps = wire.stands_fit (frames_of (json_grammar c)) (json_rules c) (tokens_are_wire (json_grammar c).is_strict) keeps (rules_fit c)
 
 -- brackets are counted, where an empty rest is no structure
 pub counts : (c : Settings) → c.enforce_strictness ≡ true → CountsOpeners (json_relations c)

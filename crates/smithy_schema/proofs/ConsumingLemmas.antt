@@ -288,8 +288,8 @@ is_member w old new outer (Some site) goes = (goes.names.0, goes.names.2)
 is_member w old new outer None goes = tt
 
 pub to_end : (w : Relations) (old new : Cursor) (outer : Site) → (from : Cursor) × Cleared w old from × MatchStep End w from new outer
-    → ToEnd w outer old new
-to_end w old new outer (from, cleared, leaves) = record { from = from; cleared = cleared; leaves = leaves }
+    → old.at ≤ new.at → ToEnd w outer old new
+to_end w old new outer (from, cleared, leaves) ahead = record { from = from; cleared = cleared; leaves = leaves; ahead = ahead }
 
 pub onto_member : (w : Relations) (old new : Cursor) (outer : Site) (member : Option Site) → ToMember w outer member old new → old.at ≤ new.at → new.at ≤ length new.input → Onto old new
 onto_member w old new outer member goes ahead inside = record {

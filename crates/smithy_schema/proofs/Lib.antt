@@ -1,9 +1,11 @@
 mod MeaningFacts
 mod DocumentFacts
+mod CountingFacts
 pub mod WritingLemmas
 pub mod OpenLemmas
 pub mod CountLemmas
 pub mod ConsumingLemmas
+mod FewCalls
 pub mod WrittenLemmas
 pub mod WrittenLists
 pub mod ReadContainers

@@ -1,5 +1,5 @@
 -- What a call with a consumer does: it enters a container, and the consumer is called along the container's entries.
-use Rattle.std.specs.Prelude.{◌≡◌, ◌≢◌, ◌⊎◌, ◌↔◌, ◌≤◌, ℕ, List, Option, Some, None, true, false, Result, Ok, Err, OnOk, OnErr}
+use Rattle.std.specs.Prelude.{◌≡◌, ◌≢◌, ◌⊎◌, ◌↔◌, ◌≤◌, ◌-◌, ℕ, suc, length, List, Option, Some, None, true, false, Result, Ok, Err, OnOk, OnErr}
 use Rattle.smithy_schema.specs.declared.error.SerdeError.{SerdeError}
 use Rattle.smithy_schema.specs.declared.error.SerdeError.TheVariants.{TypeMismatch, TooDeep, Failed, NoMemory}
 use Rattle.smithy_schema.specs.declared.step.Step.{Step}
@@ -63,6 +63,13 @@ pub data Along {K C : Type 0} (route : Route K) (call : Call K C) : C → Cursor
   went : {s t u : C} {c d f g : Cursor} {r : Result (Unit {0}) SerdeError} (k : K) → route.goes k c d → call k s d (Ok tt) t f → Rests d f
       → Along route call t f r u g → Along route call s c r u g
 
+-- how often the consumer is called
+abbrev pub times : {K C : Type 0} {route : Route K} {call : Call K C} {s t : C} {c d : Cursor} {r : Result (Unit {0}) SerdeError} → Along route call s c r t d → ℕ
+times (ended leaves) = 0
+times (refused refuses) = 0
+times (stopped k goes called) = 1
+times (went k goes called rests along) = suc (times along)
+
 -- why a container doesn't open
 pub record RefusesOpening (r : Reader) (site : Site) (c : Cursor) (e : SerdeError) : Type 0 where
   pub failed : (e ≡ Failed) ↔ (c.failed ≡ true)
@@ -84,9 +91,18 @@ pub data Consumes {K C : Type 0} (r : Reader) (site : Site) (within : ContainerK
   entered : {s t : C} {c d f : Cursor} {result : Result (Unit {0}) SerdeError} → c.failed ≡ false → c.due ≡ true → Enters r.wire r.max_depth c d site.table site.place within
       → Along route call s d result t f → Consumes r site within route call s c result t f
 
--- What such a call says of its answer: where it is Ok, the value that was due is taken, and else the reader has failed.
+-- how often the consumer is called in all
+abbrev pub calls : {K C : Type 0} {r : Reader} {site : Site} {within : ContainerKind} {route : Route K} {call : Call K C} {s t : C} {c d : Cursor} {result : Result (Unit {0}) SerdeError}
+    → Consumes r site within route call s c result t d → ℕ
+calls (unopened refuses) = 0
+calls (entered sound due enters along) = times along
+
+-- What such a call says of its answer: where it is Ok, the value that was due is taken, and else the reader has failed. The consumer
+-- is called no more often than bytes are left, and where the answer is Ok, no more often than bytes were read.
 pub record ReadsEntries {K C : Type 0} (r : Reader) (site : Site) (within : ContainerKind) (route : Route K) (call : Call K C) (s : C) (old : Cursor) (result : Result (Unit {0}) SerdeError) (t : C) (new : Cursor) : Type 0 where
   pub consumes : Consumes r site within route call s old result t new
+  pub few : calls consumes ≤ length old.input - old.at
+  pub few_read : OnOk result (calls consumes ≤ new.at - old.at)
   pub takes : OnOk result (IsTaken old new)
   pub fails : OnErr result (new.failed ≡ true)
 
@@ -120,6 +136,7 @@ pub record ToEnd (w : Relations) (outer : Site) (old new : Cursor) : Type 0 wher
   pub from : Cursor
   pub cleared : Cleared w old from
   pub leaves : Leaves w from new outer.table outer.place
+  pub ahead : old.at ≤ new.at
 
 -- why a structure or a union doesn't go on
 pub record RefusesMember (r : Reader) (outer : Site) (c : Cursor) (e : SerdeError) : Type 0 where

@@ -1,4 +1,5 @@
 pub mod Errors
+pub mod Nodes
 pub mod Reading
 pub mod Containers
 pub mod Passing

@@ -14,6 +14,7 @@ use Rattle.smithy_schema.specs.Errors.{IsOfReader, IsRefused, IsInvalid, IsNoAns
 use Rattle.smithy_declarations.specs.Table.{Table, kind_of, place_in, scalar_place, document_place, IsStructure, IsContainer, IsInside, IsSparse, IsDocument}
 use Rattle.smithy_declarations.specs.Value.{ScalarValue, Value, scalar_value, document_value}
 use Rattle.smithy_shapes.specs.Fits.{Fits}
+use Rattle.smithy_schema.specs.Nodes.{nodes}
 use Rattle.smithy_shapes.specs.Container.{Entry, container_of}
 use Rattle.smithy_shapes.specs.Site.{Site, site_of, member_site}
 
@@ -159,6 +160,11 @@ pub record Contains (w : Relations) (i : List ℕ) (t : Table) (p : Place) (d a 
 abbrev pub IsBehind : List ℕ → ℕ → ℕ → Type 0
 IsBehind i c e = ((c < e) ⊎ ((c ≡ e) × (e ≡ length i))) × (e ≤ length i)
 
+-- The slice from a to e has a byte for each of `count` values. Where e is the input's end, one of them may have none: a structure that
+-- is missing there.
+abbrev pub HaveBytes : List ℕ → ℕ → ℕ → ℕ → Type 0
+HaveBytes i a e count = (a + count ≤ e) ⊎ ((a + count ≤ suc e) × (e ≡ length i))
+
 -- what each wire proves of its relations, under all settings, with the limits kept and lifted
 pub record IsLawful (w : Relations) : Type 0 where
   -- a container stands for v exactly where its entries mean v together
@@ -190,6 +196,13 @@ pub record IsLawful (w : Relations) : Type 0 where
   pub step_falls : (i : List ℕ) (t : Table) (p : Place) (d b : ℕ) (m : Mark) (key : Option (List ℕ)) (c : ℕ) (n : Mark)
       → w.steps i t p d b m key c n → w.left i c n ≤ w.left i b m
   pub skip_falls : (i : List ℕ) (d a e : ℕ) (m : Mark) → w.skips i d a e → w.left i e m < w.left i a m
+  -- an entry takes a byte: the first one that of its container's opening, any other one a byte after the entry before it
+  pub first_takes : (i : List ℕ) (t : Table) (p : Place) (d e a b : ℕ) (m : Mark) (key : Option (List ℕ)) (c : ℕ) (n : Mark)
+      → w.opens i t p d a b m → w.steps i t p e b m key c n → (a < b) × (b ≤ length i)
+  pub next_takes : (i : List ℕ) (t : Table) (p : Place) (d e b f : ℕ) (m : Mark) (key key' : Option (List ℕ)) (c g : ℕ) (n o : Mark)
+      → w.steps i t p d b m key c n → w.steps i t p e f n key' g o → f < length i
+  pub step_ahead : (i : List ℕ) (t : Table) (p : Place) (d b : ℕ) (m : Mark) (key : Option (List ℕ)) (c : ℕ) (n : Mark)
+      → w.steps i t p d b m key c n → b ≤ c
   -- the smaller relations are determined, and a step and a close exclude one another
   pub same_opening : (i : List ℕ) (t : Table) (p : Place) (d a b c : ℕ) (m n : Mark)
       → w.opens i t p d a b m → w.opens i t p d a c n → (b ≡ c) × (m ≡ n)
@@ -210,9 +223,10 @@ pub record IsLawful (w : Relations) : Type 0 where
   pub empty_structure : (t : Table) (p : Place) (d : ℕ) → IsStructure (kind_of t p)
       → (m : Mark) × w.opens [] t p d 0 0 m × w.closes [] t p (suc d) 0 m 0
 
--- with the limits kept: what stands is a value of its place
+-- with the limits kept: what stands is a value of its place, and its slice has a byte for each value in it
 pub record StandsFit (w : Relations) : Type 0 where
   pub fits : (i : List ℕ) (t : Table) (p : Place) (d a : ℕ) (v : Value) (e : ℕ) → w.stands i t p d a v e → Fits t p v
+  pub counted : (i : List ℕ) (t : Table) (p : Place) (d a : ℕ) (v : Value) (e : ℕ) → w.stands i t p d a v e → HaveBytes i a e (nodes v)
 
 -- under the settings of bodies that are read whole: how many containers are open at once
 pub record CountsOpeners (w : Relations) : Type 0 where

@@ -13,9 +13,4 @@ pub mod Spelled
 pub mod Transcodings
 -- laws over all inputs: equal bodies, and how many values an input spells
 pub mod Laws
-mod CountingNodes
-mod CountingDocuments
-mod CountingContainers
-mod CountingValues
-mod CountingFacts
 pub mod Counting

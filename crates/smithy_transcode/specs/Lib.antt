@@ -2,7 +2,6 @@
 pub mod Wires
 pub mod Spelling
 pub mod Causes
-pub mod Nodes
 pub mod Transcoding
 -- what the refusals of a transcoding tell, and their numbers
 pub mod Refusal

@@ -15,7 +15,7 @@ use Rattle.smithy_transcode.specs.declared.wire.TranscodeError.TheVariants.{Inva
 use Rattle.smithy_transcode.specs.Wires.{Wire, json, cbor, query, IsReadable, unfit}
 use Rattle.smithy_transcode.specs.Spelling.{Spells, IsSpelled, SpellsWithoutLimits, body}
 use Rattle.smithy_transcode.specs.Causes.{IsTooDeep, IsWide, IsUncarried}
-use Rattle.smithy_transcode.specs.Nodes.{nodes}
+use Rattle.smithy_schema.specs.Nodes.{nodes}
 
 -- the bytes spell no value of the root
 abbrev pub SpellNothing : Wire → Table → ℕ → List ℕ → Type 0

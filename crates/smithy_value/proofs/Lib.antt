@@ -1,3 +1,4 @@
+mod CountedValues
 mod HalfElements
 mod HalfMembers
 mod HalfRead

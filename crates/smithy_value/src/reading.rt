@@ -1,7 +1,9 @@
 //! Reading a value tree from any wire.
-ghost use Rattle.std.specs.Prelude.{◌≡◌, true, false, OnErr};
+ghost use Rattle.std.specs.Prelude.{◌≡◌, true, false, IfOk, OnErr};
 ghost use Rattle.smithy_declarations.specs.Table.{type_of, IsStructure, IsUnion, IsList, IsMap};
 ghost use Rattle.smithy_shapes.specs.Site.{site_of, kind_at};
+ghost use Rattle.smithy_schema.specs.Nodes.{nodes};
+ghost use Rattle.smithy_schema.specs.Reading.{HaveBytes};
 ghost use Rattle.smithy_value.specs.ReadTree.{ReadsBy, ReadsUnder, ReadsTree};
 ghost use Rattle.smithy_value.specs.View.{view};
 ghost use Rattle.smithy_value.specs.Private.Rare.{IsRare};
@@ -14,8 +16,8 @@ use smithy_schema::{BorrowDeserializer, PieceDeserializer, Schema, SerdeError, S
 use std::alloc::Global;
 
 /// Reads the value of the schema that is due, whatever the wire. Its texts and bytes borrow from the input of the reader, which they
-/// may outlive. A null of a member is as good as not there: it is dropped, also where the codec hands it on. After an error the reader
-/// has failed.
+/// may outlive. A null of a member is as good as not there: it is dropped, also where the codec hands it on. With all values inside of
+/// it, the value has no more than the bytes that were read, or one more where the input ends. After an error the reader has failed.
 pub fn read_value<'a, D: BorrowDeserializer<'a>>(
     alloc: Global,
     source: &mut D,
@@ -25,6 +27,7 @@ pub fn read_value<'a, D: BorrowDeserializer<'a>>(
     ensures same { D.settings source.new ≡ D.settings source.old }
     ensures reads { ReadsUnder D.ShapeDeserializer (D.with_nulls false (D.settings source.old)) source.old source.new (site_of schema.now) view result }
     ensures broken { OnErr result ((D.state source.new).failed ≡ true) }
+    ensures few { IfOk result (λ value. HaveBytes (D.state source.old).input (D.state source.old).at (D.state source.new).at (nodes (view value))) }
 {
     let dispatched = source.dispatch_null_members(false);
     let value = read_borrowed(alloc, source, schema);
@@ -42,6 +45,7 @@ fn read_borrowed<'a, D: BorrowDeserializer<'a>>(
     ensures same { D.settings source.new ≡ D.settings source.old }
     ensures reads { ReadsBy D.ShapeDeserializer source.old source.new (site_of schema.now) view result }
     ensures broken { OnErr result ((D.state source.new).failed ≡ true) }
+    ensures few { IfOk result (λ value. HaveBytes (D.state source.old).input (D.state source.old).at (D.state source.new).at (nodes (view value))) }
 {
     let mut texts = Borrowing::<'_, 'a, D>::new(source);
     read_through(alloc, &mut texts, schema)

@@ -18,6 +18,7 @@ use Rattle.smithy_wire.specs.Lemmas.Determined.{one_form, same_step, same_close,
 use Rattle.smithy_wire.specs.Documents.{document_meaning}
 use Rattle.smithy_wire.specs.Lemmas.Places.{where_apart}
 use Rattle.smithy_wire.specs.Lemmas.Fitting.{meaning_fits}
+use Rattle.smithy_wire.specs.Lemmas.CountingValues.{stands_has_bytes}
 use Rattle.smithy_wire.specs.Lemmas.Lifting.{lifting_is_below}
 use Rattle.smithy_wire.specs.Lemmas.Containers.{folded_stands, stands_unfolded, is_missing, object_form}
 
@@ -89,6 +90,42 @@ module _ {L : Type 0} (w : Frames L) (r : Rules L) (wire : IsWire w) where
   step_left i k f d b m key c n step =
       omega (arith, drops_fall i k f step.count d b m step.at step.mark step.drops, wire.entry_falls f i step.at step.mark step.key c n step.entry)
 
+  drops_ahead : (i : List ℕ) (k : Kind) (f : Form) (count d b : ℕ) (m : Mark) (c : ℕ) (n : Mark) → DropsAll w r k f count i d b m c n → b ≤ c
+  drops_ahead i k f zero d b m c n h = omega (arith, h.0)
+  drops_ahead i k f (suc count) d b m c n (g, j, one, more) =
+      omega (
+        arith,
+        wire.entry_ahead f i b m one.key one.at j one.entry,
+        not_back w wire i one.at g (lies_behind w wire i d one.child one.at g one.lies).0,
+        drops_ahead i k f count d g j c n more,
+      )
+
+  step_ahead : (i : List ℕ) (k : Kind) (f : Form) (d b : ℕ) (m : Mark) (key : Option (List ℕ)) (c : ℕ) (n : Mark) → StepsIn w r k f i d b m key c n → b ≤ c
+  step_ahead i k f d b m key c n step =
+      omega (arith, drops_ahead i k f step.count d b m step.at step.mark step.drops, wire.entry_ahead f i step.at step.mark step.key c n step.entry)
+
+  -- what a step begins with, behind an entry: an entry, which takes a byte
+  behind_entry : (i : List ℕ) (k : Kind) (f : Form) (d b e : ℕ) (m : Mark) (key : Option L) (c : ℕ) (n : Mark) (text : Option (List ℕ)) (g : ℕ) (o : Mark) → w.entry f i b m key c n
+      → StepsIn w r k f i d e n text g o → e < length i
+  behind_entry i k f d b e m key c n text g o entry step = by step.count step.drops
+    where
+      by : (count : ℕ) → DropsAll w r k f count i d e n step.at step.mark → e < length i
+      by zero (at, mark) =
+          wire.next_entry f i b m key c n e step.key g o entry (subst (λ x. w.entry f i x n step.key g o) (sym at) (subst (λ x. w.entry f i step.at x step.key g o) (sym mark) step.entry))
+      by (suc count) (h, j, one, more) = wire.next_entry f i b m key c n e one.key one.at j entry one.entry
+
+  next_takes : (i : List ℕ) (t : Table) (p : Place) (d j b f : ℕ) (m : Mark) (key key' : Option (List ℕ)) (c g : ℕ) (n o : Mark)
+      → (relations w r).steps i t p d b m key c n → (relations w r).steps i t p j f n key' g o → f < length i
+  next_takes i t p d j b f m key key' c g n o (s, is, step) (u, is', next) =
+      behind_entry i (kind_of t p) s j step.at f step.mark step.key c n key' g o step.entry
+      (subst (λ z. StepsIn w r (kind_of t p) z i j f n key' g o) (one_form (kind_of t p) u s is' is) next)
+
+  first_takes : (i : List ℕ) (t : Table) (p : Place) (d j a b : ℕ) (m : Mark) (key : Option (List ℕ)) (c : ℕ) (n : Mark)
+      → (relations w r).opens i t p d a b m → (relations w r).steps i t p j b m key c n → (a < b) × (b ≤ length i)
+  first_takes i t p d j a b m key c n (inl (f, is, opens)) steps = wire.opens_ahead f i a b m opens
+  first_takes i t p d j a b m key c n (inr h) (f, is, steps) =
+      absurd (no_step_over w r wire i (kind_of t p) f j (object_form w r wire i t p j f h.0 is) b b m (wire.over_stays i a b h.1) h.2 key c n steps)
+
   inside : (i : List ℕ) (t : Table) (p : Place) (d a b : ℕ) (m : Mark) → (relations w r).opens i t p d a b m
       → (a < b) ⊎ ((a ≡ b) × (b ≡ length i) × IsStructure (kind_of t p))
   inside i t p d a b m (inl (f, is, opens)) = inl (wire.opens_ahead f i a b m opens).0
@@ -140,6 +177,9 @@ module _ {L : Type 0} (w : Frames L) (r : Rules L) (wire : IsWire w) where
         nearer i (kind_of t p) steps.0 d b m key c n e steps.2 (passed i c e (behind i t p d key x c e child));
     falls = λ i t p d b m key c n f steps at. nearer i (kind_of t p) steps.0 d b m key c n f steps.2 at;
     step_falls = λ i t p d b m key c n steps. step_left i (kind_of t p) steps.0 d b m key c n steps.2;
+    first_takes = first_takes;
+    next_takes = next_takes;
+    step_ahead = λ i t p d b m key c n steps. step_ahead i (kind_of t p) steps.0 d b m key c n steps.2;
     skip_falls = λ i d a e m h. let l = lies_ahead w wire i d h.0 a e h.1 (skipped_is_there d h.0 h.2) in wire.left_falls i a e m l.0 l.1;
     same_opening = opening;
     same_step = stepping;
@@ -153,9 +193,13 @@ module _ {L : Type 0} (w : Frames L) (r : Rules L) (wire : IsWire w) where
         (w.over_mark, inr (structure', wire.empty_is_over, refl), inr (structure', wire.empty_is_over, refl, omega arith));
   }
 
--- where what scalars mean is a value of their kind, what stands within the limits is a value of its place
-pub stands_fit : {L : Type 0} (w : Frames L) (r : Rules L) → r.limits ≡ kept → RulesFit w r → StandsFit (relations w r)
-stands_fit w r keeps fits = record { fits = λ i t p d a v e h. meaning_fits w r keeps fits i t d h.0 p v a e h.1 h.2 }
+-- where what scalars mean is a value of their kind, what stands within the limits is a value of its place, with bytes for all values
+-- inside of it
+pub stands_fit : {L : Type 0} (w : Frames L) (r : Rules L) → IsWire w → r.limits ≡ kept → RulesFit w r → StandsFit (relations w r)
+stands_fit w r wire keeps fits = record {
+  fits = λ i t p d a v e h. meaning_fits w r keeps fits i t d h.0 p v a e h.1 h.2;
+  counted = stands_has_bytes w r wire keeps fits;
+}
 
 -- what holds with the limits kept holds with them lifted
 pub lifted_is_above : {L : Type 0} (w : Frames L) (r : Rules L) → IsBelow (relations w r) (relations w (lift r))

@@ -125,6 +125,7 @@ cbor_is_wire strict = record {
   entry_ahead = entry_ahead;
   ends_ahead = λ s i b m e low h. ((over_ahead i b m e h).0, over_within i b m e low h);
   nearer = nearer;
+  next_entry = λ s i b m k c n f l g o h next. (entry_next s i f n l g o next).0;
   entry_falls = less_in;
   left_falls = λ i a e m ahead within. omega (arith, ahead, within);
 }

@@ -41,6 +41,9 @@ entry_or_end as_object i b m k c e n h end = names_or_end i m.entered b h.0 c e 
 
 -- ---- positions rise
 
+comma_inside : (i : List ℕ) (f g : ℕ) → IsSeparated true i f g → f < length i
+comma_inside i f g h = omega (arith, byte_ahead value_separator i f g h, h.1)
+
 entry_ahead : (s : Form) (i : List ℕ) (b : ℕ) (m : Mark) (k : Option JsonScalar) (c : ℕ) (n : Mark) → EntryTokens s i b m k c n → b ≤ c
 entry_ahead as_array i b m k c n h = separated_ahead i m.entered b c h.2
 entry_ahead as_object i b m k c n h = omega (arith, names_ahead i m.entered b h.0 c h.3)
@@ -75,6 +78,12 @@ less_in false l b c up = omega (arith, up)
 entry_falls : (s : Form) (i : List ℕ) (b : ℕ) (m : Mark) (k : Option JsonScalar) (c : ℕ) (n : Mark) → EntryTokens s i b m k c n → left i c n ≤ left i b m
 entry_falls as_array i b m k c n h = rw h.1 (less_in m.entered (length i) b c (separated_ahead i m.entered b c h.2))
 entry_falls as_object i b m k c n h = rw h.2 (less_in m.entered (length i) b c (omega (arith, names_ahead i m.entered b h.0 c h.3)))
+
+-- behind an entry another one begins with a comma
+next_entry : (s : Form) (i : List ℕ) (b : ℕ) (m : Mark) (k : Option JsonScalar) (c : ℕ) (n : Mark) (f : ℕ) (l : Option JsonScalar) (g : ℕ) (o : Mark) → EntryTokens s i b m k c n
+    → EntryTokens s i f n l g o → f < length i
+next_entry as_array i b m k c n f l g o h next = comma_inside i f g (subst (λ (x : Mark). IsSeparated x.entered i f g) h.1 next.2)
+next_entry as_object i b m k c n f l g o h next = comma_inside i f next.3.0 (subst (λ (x : Mark). IsSeparated x.entered i f next.3.0) h.2 next.3.1)
 
 opens_ahead : (s : Form) (i : List ℕ) (a b : ℕ) → Lies (IsByte (opening s)) i a b → a < b
 opens_ahead as_array i a b h = byte_ahead begin_array i a b h
@@ -159,6 +168,7 @@ tokens_are_wire strict = record {
   entry_ahead = entry_ahead;
   ends_ahead = λ s i b m e low h. (h.0, h.1);
   nearer = nearer;
+  next_entry = next_entry;
   entry_falls = entry_falls;
   left_falls = λ i a e m ahead within. omega (arith, ahead, within);
 }

@@ -4,13 +4,14 @@ use Rattle.smithy_schema.specs.declared.error.SerdeError.TheVariants.{NoMemory}
 use Rattle.smithy_shapes.specs.Site.{site_of}
 use Rattle.smithy_schema.specs.Consuming.{unopened, entered, refused, stopped, ended}
 use Rattle.smithy_schema.proofs.ConsumingLemmas.{is_error, was_sound, was_due, opening_refused, entry_refused, began, went_on, onto_by, taken_whole, less_left, none_due}
+use Rattle.smithy_schema.proofs.FewCalls.{elements_read}
 use Rattle.smithy_schema.proofs.read.ShapeDeserializer.read_list.Goals as goal
 
 pub returns-in_err-open_list-clause-reads : goal.returns-in_err-open_list-clause-reads
 returns-in_err-open_list-clause-reads g c =
     let p = err_from_is_err_and c.from_residual.result c.from_residual.ensures.1 in
     let e = c.in_err-open_list.ensures.opens in
-    rw (p.1, p.2, e.conduct.stays) (record { consumes = unopened (opening_refused _ _ _ _ _ _ e); takes = tt; fails = refl })
+    rw (p.1, p.2, e.conduct.stays) (elements_read _ _ _ _ (g.met.Self.ShapeDeserializer.lawful _) _ _ _ _ _ (unopened (opening_refused _ _ _ _ _ _ e)) tt refl)
 
 pub loop-consumer-init : goal.loop-consumer-init
 loop-consumer-init g c =
@@ -30,12 +31,8 @@ returns-in_err-next_element-clause-reads g c =
     let e = c.in_err-next_element.ensures.goes_on in
     let place = c.requires.place in
     rw (p.1, p.2, e.conduct.stays)
-    (record {
-      consumes = entered (was_sound _ _ c.in_ok-open_list.ensures.opens.conduct.failed) (was_due _ c.in_ok-open_list.ensures.opens.undue) c.in_ok-open_list.ensures.opens.ok (inside.along _ _ _ (refused
-          (rw inside.same at (entry_refused _ (g.Self.ShapeDeserializer.reading (g.Self.ShapeDeserializer.settings c.loop-consumer.self)) (site_of c.args.schema.now) _ _ _ e.conduct e.narrow e.shallow e.unread (λ h due. e.refused h due _ _ place) (λ strict h due. e.none_without_limits strict h due _ _ place)), λ is. e.memory (is_error _ _ NoMemory is))));
-      takes = tt;
-      fails = refl;
-    })
+    (elements_read _ _ _ _ (g.met.Self.ShapeDeserializer.lawful _) _ _ _ _ _ (entered (was_sound _ _ c.in_ok-open_list.ensures.opens.conduct.failed) (was_due _ c.in_ok-open_list.ensures.opens.undue) c.in_ok-open_list.ensures.opens.ok (inside.along _ _ _ (refused
+    (rw inside.same at (entry_refused _ (g.Self.ShapeDeserializer.reading (g.Self.ShapeDeserializer.settings c.loop-consumer.self)) (site_of c.args.schema.now) _ _ _ e.conduct e.narrow e.shallow e.unread (λ h due. e.refused h due _ _ place) (λ strict h due. e.none_without_limits strict h due _ _ place)), λ is. e.memory (is_error _ _ NoMemory is))))) tt refl)
 
 pub returns-in-Err-clause-same : goal.returns-in-Err-clause-same
 returns-in-Err-clause-same g c = c.fail.ensures.same ∙ c.element.ensures.same ∙ c.next_element.ensures.same ∙ c.loop-consumer.invariant.same
@@ -48,11 +45,7 @@ returns-in-Err-clause-reads g c =
     let due = none_due (g.Self.ShapeDeserializer.state c.loop-consumer.self).due (λ due. next.unread due) in
     let steps = rw (c.if-branch.true, inside.same) at (next.ok due c.args.schema.now.shapes.now c.args.schema.now.place c.requires.place) in
     rw c.fail.ensures.fails
-    (record {
-      consumes = entered (was_sound _ _ c.in_ok-open_list.ensures.opens.conduct.failed) (was_due _ c.in_ok-open_list.ensures.opens.undue) c.in_ok-open_list.ensures.opens.ok (inside.along _ _ _ (stopped tt (record { taken = due; steps = steps; ahead = next.conduct.ahead }) (rw (c.next_element.ensures.same, inside.same) at c.in-Err.ensures.called)));
-      takes = tt;
-      fails = refl;
-    })
+    (elements_read _ _ _ _ (g.met.Self.ShapeDeserializer.lawful _) _ _ _ _ _ (entered (was_sound _ _ c.in_ok-open_list.ensures.opens.conduct.failed) (was_due _ c.in_ok-open_list.ensures.opens.undue) c.in_ok-open_list.ensures.opens.ok (inside.along _ _ _ (stopped tt (record { taken = due; steps = steps; ahead = next.conduct.ahead }) (rw (c.next_element.ensures.same, inside.same) at c.in-Err.ensures.called)))) tt refl)
 
 pub loop-consumer-smaller : goal.loop-consumer-smaller
 loop-consumer-smaller g c =
@@ -82,8 +75,4 @@ returns-clause-reads g c =
     let next = c.in_ok-next_element.ensures.goes_on in
     let due = none_due (g.Self.ShapeDeserializer.state c.loop-consumer.self).due (λ due. next.unread due) in
     let leaves = rw (c.if-branch.false, inside.same) at (next.ok due c.args.schema.now.shapes.now c.args.schema.now.place c.requires.place) in
-    record {
-      consumes = entered (was_sound _ _ c.in_ok-open_list.ensures.opens.conduct.failed) (was_due _ c.in_ok-open_list.ensures.opens.undue) c.in_ok-open_list.ensures.opens.ok (inside.along _ _ _ (ended (record { taken = due; leaves = leaves; ahead = next.conduct.ahead })));
-      takes = taken_whole _ (g.met.Self.ShapeDeserializer.lawful _) _ _ _ _ _ _ _ _ _ _ _ _ _ _ _ c.in_ok-open_list.ensures.opens.ok inside refl refl leaves next.conduct.ahead next.conduct.within;
-      fails = tt;
-    }
+    elements_read _ _ _ _ (g.met.Self.ShapeDeserializer.lawful _) _ _ _ _ _ (entered (was_sound _ _ c.in_ok-open_list.ensures.opens.conduct.failed) (was_due _ c.in_ok-open_list.ensures.opens.undue) c.in_ok-open_list.ensures.opens.ok (inside.along _ _ _ (ended (record { taken = due; leaves = leaves; ahead = next.conduct.ahead })))) (taken_whole _ (g.met.Self.ShapeDeserializer.lawful _) _ _ _ _ _ _ _ _ _ _ _ _ _ _ _ c.in_ok-open_list.ensures.opens.ok inside refl refl leaves next.conduct.ahead next.conduct.within) tt

@@ -1,14 +1,13 @@
--- What a node means has no more values than the node has nodes, so a value that stands in an input has at most one more
--- than the input has bytes.
-use Rattle.std.specs.Prelude.{◌≡◌, ◌≤◌, ◌+◌, ℕ, suc, length, List, [], Option, Some, None, option_map, refl, if◌then◌else◌}
-use Rattle.std.proofs.Common.{sym, arith, subst}
+-- What a node means has no more values than the node has nodes, so where a value stands are bytes for it and all values inside of it.
+use Rattle.std.specs.Prelude.{◌≡◌, ◌≤◌, ◌+◌, ℕ, suc, List, [], Option, Some, None, option_map, refl, if◌then◌else◌}
+use Rattle.std.proofs.Common.{sym, arith, subst, inl, inr}
 use Rattle.smithy_types.specs.Document.{Document, null, array, object, Documents, no_documents, item, whole_document, properties_by}
 use Rattle.smithy_types.specs.Number.{whole_number}
 use Rattle.smithy_types.specs.declared.number.Number.{Number}
 use Rattle.smithy_declarations.specs.declared.place.Place.{Place}
 use Rattle.smithy_declarations.specs.declared.shape_type.Scalar.{Scalar}
 use Rattle.smithy_shapes.specs.Limits.{kept}
-use Rattle.smithy_schema.specs.Reading.{Mark}
+use Rattle.smithy_schema.specs.Reading.{Mark, HaveBytes}
 use Rattle.smithy_declarations.specs.Table.{Table, Kind, scalar, structure_of, kind_of, place_in, IsDocument, IsList, IsMap, IsStructure, IsUnion}
 use Rattle.smithy_declarations.specs.Value.{Value, scalar_value, list, map, structure, union, null_element, document_value, no_member_values}
 use Rattle.smithy_shapes.specs.Container.{container_of}
@@ -19,14 +18,14 @@ use Rattle.smithy_wire.specs.Rules.{Answer, settled, Rules, is_shallow, at_depth
 use Rattle.smithy_wire.specs.Documents.{document_of, elements_of, pairs_of, document_by, document_meaning}
 use Rattle.smithy_wire.specs.Meaning.{leaf_meaning, is_in, missing_meaning, meaning, entries}
 use Rattle.smithy_wire.specs.Frames.{Frames, Lies, NodesLie, relations}
-use Rattle.smithy_wire.specs.Wire.{IsWire, BoundsOpeners, RulesFit}
+use Rattle.smithy_wire.specs.Wire.{IsWire, RulesFit}
 use Rattle.smithy_wire.specs.Lemmas.Fitting.{settled_means, no_lifted_null}
 use Rattle.smithy_wire.specs.Lemmas.Pairs.{pair_apart}
 use Rattle.smithy_wire.specs.Lemmas.Places.{where_apart}
-use Rattle.smithy_transcode.specs.Nodes.{document_nodes, documents_nodes, nodes}
-use Rattle.smithy_transcode.proofs.CountingNodes.{size, sizes, size_is_some, size_is_bounded}
-use Rattle.smithy_transcode.proofs.CountingDocuments.{flat_is_one, pairs_nodes, properties_count, mapped_nodes}
-use Rattle.smithy_transcode.proofs.CountingContainers.{HaveRoom, container_counts}
+use Rattle.smithy_schema.specs.Nodes.{document_nodes, documents_nodes, nodes}
+use Rattle.smithy_wire.specs.Lemmas.CountingNodes.{size, sizes, size_is_some, takes_bytes}
+use Rattle.smithy_wire.specs.Lemmas.CountingDocuments.{flat_is_one, pairs_nodes, properties_count, mapped_nodes}
+use Rattle.smithy_wire.specs.Lemmas.CountingContainers.{HaveRoom, container_counts}
 
 -- a value of a scalar's place is one
 scalar_is_one : (t : Table) (p : Place) (s : Scalar) (v : Value) → kind_of t p ≡ scalar s → Fits t p v → nodes v ≤ 1
@@ -124,8 +123,12 @@ module _ {L : Type 0} (w : Frames L) (r : Rules L) (keeps : r.limits ≡ kept) (
       have_room xs d p f g n e lie,
     )
 
--- what stands in an input has at most one value more than the input has bytes
-pub stands_is_bounded : {L : Type 0} (w : Frames L) (r : Rules L) → IsWire w → BoundsOpeners w → r.limits ≡ kept → RulesFit w r
-    → (i : List ℕ) (t : Table) (p : Place) (d a : ℕ) (v : Value) (e : ℕ) → (relations w r).stands i t p d a v e → nodes v ≤ suc (length i)
-stands_is_bounded w r wire bounds keeps fits i t p d a v e (x, lies, is, ends) =
-    omega (arith, meaning_counts w r keeps fits i t x d p v a e lies is, size_is_bounded w wire i bounds d x a e lies)
+fewer_take : (i : List ℕ) (a e few most : ℕ) → few ≤ most → HaveBytes i a e most → HaveBytes i a e few
+fewer_take i a e few most less (inl all) = inl (omega (arith, less, all))
+fewer_take i a e few most less (inr (all, end)) = inr (omega (arith, less, all), end)
+
+-- where a value stands are bytes for it and all values inside of it
+pub stands_has_bytes : {L : Type 0} (w : Frames L) (r : Rules L) → IsWire w → r.limits ≡ kept → RulesFit w r
+    → (i : List ℕ) (t : Table) (p : Place) (d a : ℕ) (v : Value) (e : ℕ) → (relations w r).stands i t p d a v e → HaveBytes i a e (nodes v)
+stands_has_bytes w r wire keeps fits i t p d a v e (x, lies, is, ends) =
+    fewer_take i a e (nodes v) (size x) (meaning_counts w r keeps fits i t x d p v a e lies is) (takes_bytes w wire i d x a e lies)

@@ -2,7 +2,7 @@
 use Rattle.std.specs.Prelude.{◌≡◌, ◌+◌, ℕ, pos, [], ◌∷◌, length, map as list_map, true, refl, codes}
 use Rattle.smithy_types.specs.Document.{null, number, array, object, no_documents, item, no_properties, property}
 use Rattle.smithy_declarations.specs.Value.{boolean, whole, Value, scalar_value, list, map, structure, union, null_element, document_value, no_values, value, no_map_entries, map_entry, no_member_values, member_value}
-use Rattle.smithy_transcode.specs.Nodes.{nodes}
+use Rattle.smithy_schema.specs.Nodes.{nodes}
 
 abbrev one : Value
 one = scalar_value (whole (pos 1))

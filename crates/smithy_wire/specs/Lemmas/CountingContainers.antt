@@ -11,7 +11,7 @@ use Rattle.smithy_shapes.specs.Container.{Entry, element_of, elements_from, entr
 use Rattle.smithy_shapes.specs.Lemmas.ElementFolds.{element_apart, elements_apart}
 use Rattle.smithy_shapes.specs.Lemmas.Entries.{entry_with}
 use Rattle.smithy_shapes.specs.Lemmas.Options.{made, chosen, same_some, step_apart}
-use Rattle.smithy_transcode.specs.Nodes.{nodes, elements_nodes, entries_nodes, members_nodes}
+use Rattle.smithy_schema.specs.Nodes.{nodes, elements_nodes, entries_nodes, members_nodes}
 
 -- the entries have room for so many values, each for one at least and for all that it means
 abbrev pub HaveRoom : List Entry → ℕ → Type 0

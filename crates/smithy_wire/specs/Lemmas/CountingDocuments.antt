@@ -7,7 +7,7 @@ use Rattle.std.specs.Cmp.Lexicographic.{slice_cmp}
 use Rattle.std.specs.Ordering.{nat_cmp, match_ordering}
 use Rattle.smithy_types.specs.Document.{Document, null, boolean, number, text, array, object, Documents, no_documents, item, Properties, no_properties, property, put_property, map_numbers, map_elements, map_properties, put_pair, properties_by}
 use Rattle.smithy_declarations.specs.Documents.{document_nesting, documents_nesting, properties_nesting}
-use Rattle.smithy_transcode.specs.Nodes.{document_nodes, documents_nodes, properties_nodes}
+use Rattle.smithy_schema.specs.Nodes.{document_nodes, documents_nodes, properties_nodes}
 
 module _ {N : Type 0} where
   -- ---- without parts
