@@ -4,6 +4,7 @@
 mod clients;
 mod json_settings;
 mod named;
+mod numbers;
 mod prefix;
 mod program;
 mod reading;

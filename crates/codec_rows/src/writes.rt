@@ -1,5 +1,6 @@
 //! Calls on a serializer.
 
+use crate::numbers::{Elements, Entries};
 use reader_calls::places::{place_of, split};
 use smithy_json_codec::JsonCodec;
 use smithy_rows::bytes_of;
@@ -43,6 +44,8 @@ pub fn write_call<S: ShapeSerializer>(
         "begin_list_of" => Some(sink.begin_list(&place, Some(value.parse::<usize>().ok()?))),
         "begin_map_of" => Some(sink.begin_map(&place, Some(value.parse::<usize>().ok()?))),
         "write_null" => Some(sink.write_null(&place)),
+        "write_list" | "write_list_with_length" => numbers_in_list(sink, &place, word, value),
+        "write_map" | "write_map_with_length" => numbers_in_map(sink, &place, word, value),
         _ => write_value(alloc, sink, &place, word, value),
     }
 }
@@ -83,6 +86,55 @@ fn write_number<S: ShapeSerializer>(
         "write_integer" => Some(sink.write_integer(place, value.parse::<i32>().ok()?)),
         "write_long" => Some(sink.write_long(place, value.parse::<i64>().ok()?)),
         _ => None,
+    }
+}
+
+// The length that is told, where the word is of a call that takes one, and the number of elements or entries.
+fn told_and_count(word: &str, text: &str) -> Option<(Option<usize>, u8)> {
+    if !word.ends_with("_with_length") {
+        return Some((None, text.parse::<u8>().ok()?));
+    }
+    let (length, count) = split(text);
+    Some((
+        Some(length.parse::<usize>().ok()?),
+        count.parse::<u8>().ok()?,
+    ))
+}
+
+// Writes a list of whole numbers in one call. None of a place where no list stands.
+fn numbers_in_list<S: ShapeSerializer>(
+    sink: &mut S,
+    place: &Schema<'_>,
+    word: &str,
+    value: &str,
+) -> Option<Result<(), SerdeError>> {
+    let (told, count) = told_and_count(word, value)?;
+    let elements = Elements {
+        element: place.element()?.nameless(),
+        count,
+    };
+    match told {
+        Some(length) => Some(sink.write_list_with_length(place, length, &elements)),
+        None => Some(sink.write_list(place, &elements)),
+    }
+}
+
+// Writes a map of whole numbers in one call. None of a place where no map stands.
+fn numbers_in_map<S: ShapeSerializer>(
+    sink: &mut S,
+    place: &Schema<'_>,
+    word: &str,
+    value: &str,
+) -> Option<Result<(), SerdeError>> {
+    let (told, count) = told_and_count(word, value)?;
+    let entries = Entries {
+        key: place.key()?,
+        value: place.member()?.nameless(),
+        count,
+    };
+    match told {
+        Some(length) => Some(sink.write_map_with_length(place, length, &entries)),
+        None => Some(sink.write_map(place, &entries)),
     }
 }
 

@@ -7,6 +7,8 @@ mod adapters;
 #[cfg(test)]
 mod copies;
 #[cfg(test)]
+mod discriminated;
+#[cfg(test)]
 mod documents;
 #[cfg(test)]
 mod errors;

@@ -3,19 +3,22 @@ ghost use Rattle.smithy_shapes.specs.Site.{site_of};
 
 use smithy_error_metadata::ErrorMetadata;
 use smithy_protocol::{AwsJsonRpcProtocol, Headers, ProtocolConfig, Request, Response};
-use smithy_schema::{Schema, SerdeError, SerializableStruct, ShapeSerializer, Shapes, TableText};
+use smithy_schema::{
+    Schema, SerdeError, SerializableStruct, ShapeSerializer, Shapes, TableText, WriteMember,
+};
 use std::alloc::Global;
 use std::test::Fail;
 
-// A structure with the name of a table as its one member.
+// What Scan is given: the name of a table, and how many items are looked at.
 #[derive(Clone, Copy)]
-struct PutItem<'s> {
+struct Scan<'s> {
     shape: Schema<'s>,
     table_name: &'s str,
+    limit: i32,
 }
 
-impl<'s> SerializableStruct for PutItem<'s> {
-    ghost site = { λ input. site_of input.shape };
+impl<'s> SerializableStruct for Scan<'s> {
+    ghost site = { λ scan. site_of scan.shape };
 
     // The test tells what it adds.
     ghost adds = { λ _ _ _ _ _. Unit {0} };
@@ -25,27 +28,26 @@ impl<'s> SerializableStruct for PutItem<'s> {
     }
 
     fn serialize_members<S: ShapeSerializer>(&self, sink: &mut S) -> Result<(), SerdeError> {
-        match self.shape.member_schema("TableName") {
-            Some(member) => sink.write_string(&member, self.table_name),
-            None => Ok(()),
+        if let Some(member) = self.shape.member_schema("TableName") {
+            self.table_name.write_member(sink, &member)?;
         }
+        if let Some(member) = self.shape.member_schema("Limit") {
+            self.limit.write_member(sink, &member)?;
+        }
+        Ok(())
     }
 }
 
-// The request of PutItem of Amazon DynamoDB.
-fn put_item<V: SerializableStruct>(
-    alloc: Global,
-    input: &V,
-    schema: &Schema<'_>,
-) -> Result<Request, Fail> {
+// The request of Scan of Amazon DynamoDB.
+fn scan(alloc: Global, input: &Scan<'_>) -> Result<Request, Fail> {
     let config = ProtocolConfig {
-        operation: Some(String::from_str(alloc, "PutItem")?),
+        operation: Some(String::from_str(alloc, "Scan")?),
         service_name: Some(String::from_str(alloc, "DynamoDB_20120810")?),
         namespace: None,
         version: None,
     };
     let protocol = AwsJsonRpcProtocol::aws_json_1_0();
-    Ok(protocol.serialize_request(alloc, input, schema, "", &config)?)
+    Ok(protocol.serialize_request(alloc, input, &input.shape, "", &config)?)
 }
 
 // Which error an answer is, and what it says.
@@ -62,16 +64,16 @@ fn error_of(alloc: Global, body: &[u8]) -> Result<ErrorMetadata, Fail> {
 #[test]
 fn a_request_is_made(rt: HostRuntime) -> Result<(), Fail> {
     let alloc = rt.alloc();
-    let table = TableText::read(alloc, b"structure S\nmember TableName string\n")?;
-    let shapes = Shapes::build(alloc, table)?;
-    let shape = shapes.schema(shapes.find("S").ok_or("no such shape")?);
-    let input = PutItem {
-        shape,
+    let text = b"structure S\nmember TableName string\nmember Limit integer\n";
+    let shapes = Shapes::build(alloc, TableText::read(alloc, text)?)?;
+    let input = Scan {
+        shape: shapes.schema(shapes.find("S").ok_or("no such shape")?),
         table_name: "Books",
+        limit: 10,
     };
-    let request = put_item(alloc, &input, &shape)?;
-    assert!(rt; request.headers.get("x-amz-target") == Some("DynamoDB_20120810.PutItem"));
-    assert!(rt; request.body.as_slice() == b"{\"TableName\":\"Books\"}".as_slice());
+    let request = scan(alloc, &input)?;
+    assert!(rt; request.headers.get("x-amz-target") == Some("DynamoDB_20120810.Scan"));
+    assert!(rt; request.body.as_slice() == b"{\"TableName\":\"Books\",\"Limit\":10}".as_slice());
     Ok(())
 }
 

@@ -1,7 +1,7 @@
 //! The structure that a request has as its body.
 ghost use Rattle.smithy_shapes.specs.Site.{site_of};
 
-use smithy_schema::{Schema, SerdeError, SerializableStruct, ShapeSerializer};
+use smithy_schema::{Schema, SerdeError, SerializableStruct, ShapeSerializer, WriteMember};
 
 /// A structure that has a text as its one member, or no member.
 #[derive(Clone, Copy)]
@@ -25,7 +25,7 @@ impl<'s> SerializableStruct for Input<'s> {
             return Ok(());
         };
         match self.shape.member_schema("a") {
-            Some(member) => sink.write_string(&member, text),
+            Some(member) => text.write_member(sink, &member),
             None => Ok(()),
         }
     }

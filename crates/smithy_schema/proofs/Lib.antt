@@ -8,6 +8,7 @@ pub mod ConsumingLemmas
 mod FewCalls
 pub mod WrittenLemmas
 pub mod WrittenLists
+pub mod WrittenByHand
 pub mod ReadContainers
 pub mod ReadLists
 pub mod ReadMaps

@@ -81,6 +81,20 @@ impl WriteMember for String {
     }
 }
 
+impl<'t> WriteMember for &'t str {
+    ghost use Rattle.smithy_declarations.specs.Value.{text};
+
+    ghost value = { λ s. scalar_value (text s.now) };
+
+    fn write_member<S: ShapeSerializer>(
+        &self,
+        sink: &mut S,
+        member: &Schema<'_>,
+    ) -> Result<(), SerdeError> {
+        sink.write_string(member, self)
+    }
+}
+
 impl WriteMember for Blob {
     ghost use Rattle.smithy_declarations.specs.Value.{bytes};
 

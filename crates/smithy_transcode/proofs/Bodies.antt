@@ -35,7 +35,7 @@ use Rattle.smithy_query_codec.specs.Writable.{can_write, can_be_written, query_h
 use Rattle.smithy_query_codec.specs.Writing.{QueryState, query_after, fresh_state as fresh_form}
 use Rattle.smithy_query_codec.proofs.WholeForms.{whole_state, fit_is_written, fit_is_read, fit_is_distinct}
 use Rattle.smithy_transcode.specs.declared.wire.Unfit.TheVariants.{Document, Null, Instant}
-use Rattle.smithy_transcode.specs.Wires.{Wire, json, cbor, query, has_nulls, holds, holds_document, unfit}
+use Rattle.smithy_transcode.specs.Wires.{Wire, json, cbor, query, has_nulls, holds, holds_document, unfit_at, unfit}
 use Rattle.smithy_transcode.specs.Transcoding.{TellsAgain}
 use Rattle.smithy_transcode.specs.Spelling.{body}
 
@@ -56,14 +56,14 @@ parts_of false true passes h = absurd (let e : Some Null ≡ None = h in cc)
 parts_of false false true h = (refl, refl)
 parts_of false false false h = absurd (let e : Some Instant ≡ None = h in cc)
 
-fit_parts : (w : Wire) (t : Table) (root : ℕ) (v : Value) → unfit w t root v ≡ None
-    → ((not (has_nulls w) && holds_null v) ≡ false) × (scalars_pass (holds w) (shape_site t root) v ≡ true)
-fit_parts w t root v fit =
-    let site = shape_site t root in
+-- the same of the value of any site
+pub parts_at : (w : Wire) (site : Site) (v : Value) → unfit_at w site v ≡ None
+    → ((not (has_nulls w) && holds_null v) ≡ false) × (scalars_pass (holds w) site v ≡ true)
+parts_at w site v fit =
     parts_of (not (holds w).documents && holds_document site v) (not (has_nulls w) && holds_null v) (scalars_pass (holds w) site v) fit
 
 pub all_held : (w : Wire) (t : Table) (root : ℕ) (v : Value) → unfit w t root v ≡ None → scalars_pass (holds w) (shape_site t root) v ≡ true
-all_held w t root v fit = (fit_parts w t root v fit).1
+all_held w t root v fit = (parts_at w (shape_site t root) v fit).1
 
 -- ---- JSON
 
@@ -121,11 +121,11 @@ cbor_is_body w told s t root v wire site = ap (λ x. canonical_cbor told x v) si
 -- ---- forms
 
 -- a value that a form can express can be written
-pub form_takes : (action version : List ℕ) (t : Table) (root : ℕ) (v : Value) → unfit (query action version) t root v ≡ None → can_be_written (shape_site t root) v ≡ true
-form_takes action version t root v fit =
-    let parts = fit_parts (query action version) t root v fit in
-    let written = more_pass query_holds can_write (λ time x held. held_writes (form_or DateTime time) x held) (λ documents. documents) v (shape_site t root) parts.1 in
-    both_true (holds_null v) (scalars_pass can_write (shape_site t root) v) parts.0 written
+pub form_takes : (action version : List ℕ) (site : Site) (v : Value) → unfit_at (query action version) site v ≡ None → can_be_written site v ≡ true
+form_takes action version site v fit =
+    let parts = parts_at (query action version) site v fit in
+    let written = more_pass query_holds can_write (λ time x held. held_writes (form_or DateTime time) x held) (λ documents. documents) v site parts.1 in
+    both_true (holds_null v) (scalars_pass can_write site v) parts.0 written
   where
     both_true : (null can : Bool) → null ≡ false → can ≡ true → (not null && can) ≡ true
     both_true null can clear written = rw (clear, written) refl

@@ -20,23 +20,24 @@ body_read view t root from i x spelled = record {
   fits = (spelled_is_small from t root i (view x) spelled).0;
   spelled = λ v h. one_value from t root i (view x) v spelled h;
   refused = tt;
+  one_value = one_value from t root i;
 }
 
 told : {T : Type 0} (view : T → Value) (t : Table) (root : ℕ) (from : Wire) (i : List ℕ) (e : SerdeError) (refusal : TranscodeError) → IsToldAs e refusal
     → (IsFault e → SpellNothing from t root i) → (FindsNone e → SpellNothingWithoutLimits from t root i) → (e ≡ serde.TooDeep → IsTooDeep from t root i) → (e ≡ serde.TooWide → IsWide from t i) → (e ≡ serde.NotCarried → IsUncarried from t i)
     → ReadsBody view t root from i (Err refusal)
 told view t root from i serde.InvalidInput refusal tells nothing free deep wide uncarried =
-    rw tells (record { ok = tt; fits = tt; spelled = λ v h. absurd (nothing tt v h); refused = λ other. (nothing tt, free tt) })
+    rw tells (record { ok = tt; fits = tt; spelled = λ v h. absurd (nothing tt v h); refused = λ other. (nothing tt, free tt); one_value = one_value from t root i })
 told view t root from i serde.TypeMismatch refusal tells nothing free deep wide uncarried =
-    rw tells (record { ok = tt; fits = tt; spelled = λ v h. absurd (nothing tt v h); refused = λ other. (nothing tt, free tt) })
+    rw tells (record { ok = tt; fits = tt; spelled = λ v h. absurd (nothing tt v h); refused = λ other. (nothing tt, free tt); one_value = one_value from t root i })
 told view t root from i serde.TooDeep refusal tells nothing free deep wide uncarried =
-    rw tells (record { ok = tt; fits = tt; spelled = λ v h. absurd (nothing tt v h); refused = λ other. (nothing tt, deep refl) })
+    rw tells (record { ok = tt; fits = tt; spelled = λ v h. absurd (nothing tt v h); refused = λ other. (nothing tt, deep refl); one_value = one_value from t root i })
 told view t root from i serde.TooWide refusal tells nothing free deep wide uncarried =
-    rw tells (record { ok = tt; fits = tt; spelled = λ v h. absurd (nothing tt v h); refused = λ other. (nothing tt, wide refl) })
+    rw tells (record { ok = tt; fits = tt; spelled = λ v h. absurd (nothing tt v h); refused = λ other. (nothing tt, wide refl); one_value = one_value from t root i })
 told view t root from i serde.NotCarried refusal tells nothing free deep wide uncarried =
-    rw tells (record { ok = tt; fits = tt; spelled = λ v h. absurd (nothing tt v h); refused = λ other. (nothing tt, uncarried refl) })
+    rw tells (record { ok = tt; fits = tt; spelled = λ v h. absurd (nothing tt v h); refused = λ other. (nothing tt, uncarried refl); one_value = one_value from t root i })
 told view t root from i serde.NoMemory refusal tells nothing free deep wide uncarried =
-    rw tells (record { ok = tt; fits = tt; spelled = λ v h. tt; refused = λ other. absurd (other refl) })
+    rw tells (record { ok = tt; fits = tt; spelled = λ v h. tt; refused = λ other. absurd (other refl); one_value = one_value from t root i })
 told view t root from i serde.Unsupported refusal tells nothing free deep wide uncarried = absurd tells
 told view t root from i serde.Unwritable refusal tells nothing free deep wide uncarried = absurd tells
 told view t root from i serde.Missing refusal tells nothing free deep wide uncarried = absurd tells

@@ -1,6 +1,7 @@
 pub mod Begun
 pub mod Bodies
 mod BodiesRead
+mod TakenLemmas
 mod BodiesWritten
 mod Unfits
 mod ValuesPass

@@ -120,6 +120,7 @@ no_memory t root from i to = record {
   answers_not_carried = λ h. absurd (let x : Err NoMemory ≡ Err NotCarried = h in cc);
   equal_bodies = λ read. tt;
   nodes_are_bounded = nodes_are_bounded from t root i;
+  one_value = one_value from t root i;
 }
 
 -- and so is a write that fails, which wants memory
@@ -155,6 +156,7 @@ written t root from i to v out accepted kind spelled fit counts texts ok short =
         λ same. ok ∙ ap (body to t root) (sym is ∙ same),
       );
   nodes_are_bounded = nodes_are_bounded from t root i;
+  one_value = one_value from t root i;
 }
 
 -- and so is what the wire can't express of it
@@ -172,6 +174,7 @@ lacking t root from i to v u spelled lack = record {
   answers_not_carried = λ h. absurd (let e : Err (Inexpressible u) ≡ Err NotCarried = h in cc);
   equal_bodies = λ read. tt;
   nodes_are_bounded = nodes_are_bounded from t root i;
+  one_value = one_value from t root i;
 }
 
 -- and so is a refusal of the input
@@ -190,6 +193,7 @@ told t root from i to serde.InvalidInput refusal tells nothing none_without_limi
   answers_not_carried = λ h. absurd (let x : Err InvalidInput ≡ Err NotCarried = h in cc);
   equal_bodies = λ read. tt;
   nodes_are_bounded = nodes_are_bounded from t root i;
+  one_value = one_value from t root i;
 })
 told t root from i to serde.TypeMismatch refusal tells nothing none_without_limits deep wide uncarried = rw tells (record {
   answers_ok = tt;
@@ -203,6 +207,7 @@ told t root from i to serde.TypeMismatch refusal tells nothing none_without_limi
   answers_not_carried = λ h. absurd (let x : Err InvalidInput ≡ Err NotCarried = h in cc);
   equal_bodies = λ read. tt;
   nodes_are_bounded = nodes_are_bounded from t root i;
+  one_value = one_value from t root i;
 })
 told t root from i to serde.TooDeep refusal tells nothing none_without_limits deep wide uncarried = rw tells (record {
   answers_ok = tt;
@@ -216,6 +221,7 @@ told t root from i to serde.TooDeep refusal tells nothing none_without_limits de
   answers_not_carried = λ h. absurd (let x : Err TooDeep ≡ Err NotCarried = h in cc);
   equal_bodies = λ read. tt;
   nodes_are_bounded = nodes_are_bounded from t root i;
+  one_value = one_value from t root i;
 })
 told t root from i to serde.TooWide refusal tells nothing none_without_limits deep wide uncarried = rw tells (record {
   answers_ok = tt;
@@ -229,6 +235,7 @@ told t root from i to serde.TooWide refusal tells nothing none_without_limits de
   answers_not_carried = λ h. absurd (let x : Err TooWide ≡ Err NotCarried = h in cc);
   equal_bodies = λ read. tt;
   nodes_are_bounded = nodes_are_bounded from t root i;
+  one_value = one_value from t root i;
 })
 told t root from i to serde.NotCarried refusal tells nothing none_without_limits deep wide uncarried = rw tells (record {
   answers_ok = tt;
@@ -242,6 +249,7 @@ told t root from i to serde.NotCarried refusal tells nothing none_without_limits
   answers_not_carried = λ h. (nothing tt, uncarried refl);
   equal_bodies = λ read. tt;
   nodes_are_bounded = nodes_are_bounded from t root i;
+  one_value = one_value from t root i;
 })
 told t root from i to serde.NoMemory refusal tells nothing none_without_limits deep wide uncarried = rw tells (no_memory t root from i to)
 told t root from i to serde.Unsupported refusal tells nothing none_without_limits deep wide uncarried = absurd tells

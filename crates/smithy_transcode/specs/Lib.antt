@@ -9,5 +9,7 @@ pub mod Numbers
 -- what reads and writes of a whole body say of their answers
 pub mod ReadBody
 pub mod WriteBody
+-- what can be written in the middle of a body
+pub mod Taken
 -- for private clauses
 pub mod Private

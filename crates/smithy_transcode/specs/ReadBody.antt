@@ -37,3 +37,5 @@ pub record ReadsBody {T : Type 0} (view : T → Value) (table : Table) (root : �
   pub spelled : (v : Value) → Spells from table root input v → GivesValue view v answer
   -- each other refusal comes by its cause
   pub refused : IfErr answer (λ e. (e ≢ NoMemory) → IsRefusedFor from table root input e)
+  -- whatever the answer, the input spells at most one value
+  pub one_value : (v u : Value) → Spells from table root input v → Spells from table root input u → v ≡ u

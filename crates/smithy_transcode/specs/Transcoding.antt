@@ -95,3 +95,5 @@ pub record Transcodes (table : Table) (root : ℕ) (from : Wire) (input : List �
       → (out.items ≡ body to table root u) ↔ (v ≡ u))
   -- whatever the answer, what the input spells has at most one part more than the input has bytes
   pub nodes_are_bounded : (v : Value) → Spells from table root input v → nodes v ≤ length input + 1
+  -- and it spells at most one value
+  pub one_value : (v u : Value) → Spells from table root input v → Spells from table root input u → v ≡ u

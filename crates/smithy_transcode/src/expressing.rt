@@ -1,6 +1,7 @@
 //! What a wire can't express.
-ghost use Rattle.std.specs.Prelude.{◌≡◌, ℕ, List, ◌&&◌, ◌||◌, not, None, false};
-ghost use Rattle.smithy_shapes.specs.Fits.{Fits};
+ghost use Rattle.std.specs.Prelude.{◌≡◌, ℕ, List, ◌&&◌, ◌||◌, not, None, true, false};
+ghost use Rattle.smithy_shapes.specs.Accepted.{IsAccepted};
+ghost use Rattle.smithy_shapes.specs.Fits.{Fits, FitsOr};
 ghost use Rattle.smithy_shapes.specs.Holding.{may_hold};
 ghost use Rattle.smithy_shapes.specs.ScalarTest.{scalars_pass};
 ghost use Rattle.smithy_shapes.specs.Site.{site_of};
@@ -8,6 +9,7 @@ ghost use Rattle.smithy_declarations.specs.Table.{IsStructure, is_document_targe
 ghost use Rattle.smithy_shapes.specs.Targets.{is_timestamp_target};
 ghost use Rattle.smithy_query_codec.specs.Nulls.{holds_null as null_in};
 ghost use Rattle.smithy_value.specs.View.{view};
+ghost use Rattle.smithy_transcode.specs.Taken.{IsTaken};
 ghost use Rattle.smithy_transcode.specs.Wires.{wire_of, has_nulls, holds_document, unfit as unfit_for, unfit_at};
 ghost use Rattle.smithy_transcode.specs.Private.Positions.{CanCount};
 ghost use Rattle.smithy_transcode.specs.Private.Standing.{IsValueAt};
@@ -29,6 +31,18 @@ pub fn expressible(shapes: &Shapes, root: ShapeRef, value: &Value<'_>, to: &Wire
     ensures positions { result ≡ None → CanCount (wire_of to.now) (view value.now) }
 {
     unfit::<ValueTrees<'_>>(&ValueTrees::new(), &shapes.schema(root), value, to)
+}
+
+/// Why the wire can't express a value of a place, or nothing where it can. It takes no memory.
+///
+/// Where it can, `write_value` writes the value to a serializer of the wire in each state in which a value may come, also in the
+/// middle of a body, want of memory aside.
+pub fn expressible_at(schema: &Schema<'_>, value: &Value<'_>, to: &Wire) -> Option<Unfit>
+    requires fits { FitsOr schema.now.shapes.now schema.now.place true (view value.now) }
+    ensures unfit { result ≡ unfit_at (wire_of to.now) (site_of schema.now) (view value.now) }
+    ensures taken { result ≡ None → IsAccepted schema.now.shapes.now → IsTaken (wire_of to.now) (site_of schema.now) (view value.now) }
+{
+    unfit::<ValueTrees<'_>>(&ValueTrees::new(), schema, value, to)
 }
 
 // A value of the schema's place may fail the test: a timestamp, or a document where none passes, may stand in it.

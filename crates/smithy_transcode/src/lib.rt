@@ -11,7 +11,7 @@ mod whole_input;
 mod whole_output;
 mod wire;
 
-pub use expressing::expressible;
+pub use expressing::{expressible, expressible_at};
 pub use pool_input::read_body_into;
 pub use smithy_value::{Value, read_value, write_value};
 pub use transcoding::transcode;

@@ -1,7 +1,7 @@
 //! What texts and numbers of a document stand for, by the protocol that it came by.
 ghost use Rattle.std.specs.Prelude.{◌≡◌, ◌⊎◌, ℕ, ℤ, List, Option, Some, None, IfOk, IfErr};
 ghost use Rattle.smithy_types.specs.Coercion.{date_form, seconds_of_number};
-ghost use Rattle.smithy_types.specs.DocumentFault.{fault_of, no_memory, invalid_input, unsupported};
+ghost use Rattle.smithy_types.specs.DocumentFault.{DocumentFault, fault_of, no_memory, invalid_input, unsupported};
 ghost use Rattle.smithy_types.specs.declared.number.Number.{Number};
 
 use crate::document_error::DocumentError;
@@ -17,11 +17,18 @@ pub trait DocumentSettings {
     ghost id: { Self → List ℕ };
 
     // What a text stands for as bytes and as an instant, and a number as an instant, where they may stand for such.
-    ghost blob: { Self → List ℕ → Option (List ℕ) };
+    ghost blob: { Self → List ℕ → Option (List ℕ) } = { λ _ _. None };
 
-    ghost date: { Self → List ℕ → Option ℤ };
+    ghost date: { Self → List ℕ → Option ℤ } = { λ _ _. None };
 
-    ghost seconds: { Self → Number → Option ℤ };
+    ghost seconds: { Self → Number → Option ℤ } = { λ _ _. None };
+
+    // Which errors may come beside the unsupported one. Where an implementation says nothing, none may.
+    ghost refuses_blob: { Self → List ℕ → DocumentFault → Type 0 } = { λ _ _ _. ⊥ };
+
+    ghost refuses_date: { Self → List ℕ → DocumentFault → Type 0 } = { λ _ _ _. ⊥ };
+
+    ghost refuses_seconds: { Self → Number → DocumentFault → Type 0 } = { λ _ _ _. ⊥ };
 
     /// The identifier of the protocol that the document came by.
     fn protocol_id(&self) -> &str
@@ -30,6 +37,7 @@ pub trait DocumentSettings {
     /// The bytes that a text stands for. Unsupported unless an implementation says otherwise.
     fn coerce_string_to_blob(&self, _alloc: Global, _s: &str) -> Result<Vec<u8>, DocumentError>
         ensures sound { IfOk result (λ bytes. blob self.now _s.now ≡ Some bytes.items) }
+        ensures err { IfErr result (λ e. (fault_of e ≡ unsupported) ⊎ refuses_blob self.now _s.now (fault_of e)) }
     {
         Err(no_settings())
     }
@@ -37,6 +45,7 @@ pub trait DocumentSettings {
     /// The instant that a text stands for. Unsupported unless an implementation says otherwise.
     fn coerce_string_to_timestamp(&self, _s: &str) -> Result<DateTime, DocumentError>
         ensures sound { IfOk result (λ instant. date self.now _s.now ≡ Some instant) }
+        ensures err { IfErr result (λ e. (fault_of e ≡ unsupported) ⊎ refuses_date self.now _s.now (fault_of e)) }
     {
         Err(no_settings())
     }
@@ -44,6 +53,7 @@ pub trait DocumentSettings {
     /// The instant that a number stands for. Unsupported unless an implementation says otherwise.
     fn coerce_number_to_timestamp(&self, _n: &Number) -> Result<DateTime, DocumentError>
         ensures sound { IfOk result (λ instant. seconds self.now _n.now ≡ Some instant) }
+        ensures err { IfErr result (λ e. (fault_of e ≡ unsupported) ⊎ refuses_seconds self.now _n.now (fault_of e)) }
     {
         Err(no_settings())
     }
@@ -88,6 +98,12 @@ impl DocumentSettings for DocumentCoercion {
     ghost date = { λ c s. date_of (date_form c.default_timestamp_format) s };
 
     ghost seconds = { λ c n. seconds_of_number n };
+
+    ghost refuses_blob = { λ c s fault. (fault ≡ no_memory) ⊎ (blob_by (coercion_of c) s ≡ refused fault) };
+
+    ghost refuses_date = { λ c s fault. date_by (coercion_of c) s ≡ refused fault };
+
+    ghost refuses_seconds = { λ c n fault. seconds_by c.default_timestamp_format n ≡ refused fault };
 
     fn protocol_id(&self) -> &str {
         self.protocol_id.as_str()

@@ -81,7 +81,8 @@ fn written(alloc: Global, answer: Result<Vec<u8>, SerdeError>) -> Result<Field, 
     }
 }
 
-// What `read_value` and `write_value` answer one after the other, and between them `expressible` where it is asked.
+// What `read_value` and `write_value` answer one after the other, and between them `expressible` and
+// `expressible_at` where these are asked.
 fn by_value(alloc: Global, asked: &Body<'_>, whether: bool) -> Result<Field, AllocError> {
     let shapes = asked.shapes;
     let Some(root) = shapes.find(asked.root) else {
@@ -101,6 +102,9 @@ fn by_value(alloc: Global, asked: &Body<'_>, whether: bool) -> Result<Field, All
     };
     if whether {
         if let Some(unfit) = expressible(shapes, root, &value, asked.to) {
+            return inexpressible(alloc, unfit);
+        }
+        if let Some(unfit) = values::lacking(shapes, root, &value, asked.to) {
             return inexpressible(alloc, unfit);
         }
     }

@@ -8,7 +8,7 @@ use smithy_cbor_codec::{CborCodec, CborCodecSettings};
 use smithy_json_codec::{JsonCodec, JsonCodecSettings};
 use smithy_query_codec::QueryShapeSerializer;
 use smithy_schema::{BorrowDeserializer, FinishSerializer, SerdeError, ShapeRef, Shapes};
-use smithy_transcode::{Value, Wire, read_value, write_value};
+use smithy_transcode::{Unfit, Value, Wire, expressible_at, read_value, write_value};
 use std::alloc::Global;
 
 // The value that a reader gives.
@@ -80,6 +80,14 @@ pub fn read<'a>(
         }
         Wire::Query { .. } => Err(SerdeError::InvalidInput),
     }
+}
+
+/// What the wire lacks for the value at the place of the root.
+pub fn lacking(shapes: &Shapes, root: ShapeRef, value: &Value<'_>, to: &Wire) -> Option<Unfit>
+    requires fits { Fits shapes.now (shape_place root.0) (view value.now) }
+{
+    let schema = shapes.schema(root);
+    expressible_at(&schema, value, to)
 }
 
 // The bytes of a serializer that takes the value.

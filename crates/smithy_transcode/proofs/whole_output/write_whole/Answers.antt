@@ -1,5 +1,5 @@
 use Rattle.std.proofs.Common.{◌≡◌, None, string_bytes, refl, ◌∙◌, ap, subst}
-use Rattle.smithy_shapes.specs.Site.{Site, site_of}
+use Rattle.smithy_shapes.specs.Site.{Site, site_of, shape_site}
 use Rattle.smithy_json_codec.specs.Serializing.{state_of}
 use Rattle.smithy_json_codec.specs.Writing.{fresh_state}
 use Rattle.smithy_cbor_codec.specs.Serializing.{state_of as cbor_state_of}
@@ -56,7 +56,7 @@ body_of_value-requires-in-Query-clause-taken g c =
     let action = string_bytes c.in-Query.action in
     let version = string_bytes c.in-Query.version in
     let counts = subst (λ w. CanCount w v) (ap wire_of c.in-Query.is) c.requires.positions in
-    let can = form_takes action version c.args.shapes.now c.args.root.0 v (subst (λ w. unfit w c.args.shapes.now c.args.root.0 v ≡ None) (ap wire_of c.in-Query.is) c.requires.fit) in
+    let can = form_takes action version (shape_site c.args.shapes.now c.args.root.0) v (subst (λ w. unfit w c.args.shapes.now c.args.root.0 v ≡ None) (ap wire_of c.in-Query.is) c.requires.fit) in
     let fresh = c.in_ok-sink-in-Query.ensures.state ∙ same_fresh _ action _ version c.as_str.ensures.value c.as_str-in-Query.ensures.value in (
       form_state (query action version) c.args.shapes.now c.args.root.0 v,
       form_adds action version (site_of c.schema-schema.result) c.args.shapes.now c.args.root.0 v (form_of c.in_ok-sink-in-Query.sink) c.schema-schema.ensures.site fresh
@@ -70,7 +70,7 @@ returns-in_ok-sink-in-Query-clause-ok g c =
     let action = string_bytes c.in-Query.action in
     let version = string_bytes c.in-Query.version in
     let counts = subst (λ w. CanCount w v) (ap wire_of c.in-Query.is) c.requires.positions in
-    let can = form_takes action version c.args.shapes.now c.args.root.0 v (subst (λ w. unfit w c.args.shapes.now c.args.root.0 v ≡ None) (ap wire_of c.in-Query.is) c.requires.fit) in
+    let can = form_takes action version (shape_site c.args.shapes.now c.args.root.0) v (subst (λ w. unfit w c.args.shapes.now c.args.root.0 v ≡ None) (ap wire_of c.in-Query.is) c.requires.fit) in
     let fresh = c.in_ok-sink-in-Query.ensures.state ∙ same_fresh _ action _ version c.as_str.ensures.value c.as_str-in-Query.ensures.value in
     let adds = form_adds action version (site_of c.schema-schema.result) c.args.shapes.now c.args.root.0 v (form_of c.in_ok-sink-in-Query.sink) c.schema-schema.ensures.site fresh
     c.schema-schema.ensures.accepted c.requires.root c.requires.fits counts can in
