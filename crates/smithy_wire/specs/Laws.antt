@@ -104,7 +104,7 @@ module _ {L : Type 0} (w : Frames L) (r : Rules L) (wire : IsWire w) where
   step_ahead i k f d b m key c n step =
       omega (arith, drops_ahead i k f step.count d b m step.at step.mark step.drops, wire.entry_ahead f i step.at step.mark step.key c n step.entry)
 
-  -- what a step begins with, behind an entry: an entry, which takes a byte
+  -- a step after an entry begins with another entry, which takes a byte
   behind_entry : (i : List ℕ) (k : Kind) (f : Form) (d b e : ℕ) (m : Mark) (key : Option L) (c : ℕ) (n : Mark) (text : Option (List ℕ)) (g : ℕ) (o : Mark) → w.entry f i b m key c n
       → StepsIn w r k f i d e n text g o → e < length i
   behind_entry i k f d b e m key c n text g o entry step = by step.count step.drops

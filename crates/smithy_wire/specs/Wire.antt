@@ -62,7 +62,7 @@ pub record IsWire {L : Type 0} (w : Frames L) : Type 0 where
   pub ends_ahead : (s : Form) (i : List ℕ) (b : ℕ) (m : Mark) (e : ℕ) → b ≤ length i → w.ends s i b m e → (b ≤ e) × (e ≤ length i)
   pub nearer : (s : Form) (i : List ℕ) (b : ℕ) (m : Mark) (k : Option L) (c e : ℕ) (n : Mark) → w.entry s i b m k c n → IsPassed i c e
       → w.left i e n < w.left i b m
-  -- behind an entry another one takes a byte
+  -- after an entry another one takes a byte
   pub next_entry : (s : Form) (i : List ℕ) (b : ℕ) (m : Mark) (k : Option L) (c : ℕ) (n : Mark) (f : ℕ) (l : Option L) (g : ℕ) (o : Mark) → w.entry s i b m k c n
       → w.entry s i f n l g o → f < length i
   pub entry_falls : (s : Form) (i : List ℕ) (b : ℕ) (m : Mark) (k : Option L) (c : ℕ) (n : Mark) → w.entry s i b m k c n → w.left i c n ≤ w.left i b m

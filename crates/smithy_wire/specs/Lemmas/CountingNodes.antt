@@ -32,7 +32,7 @@ module _ {L : Type 0} (w : Frames L) (wire : IsWire w) (i : List ℕ) where
   opened_takes a b e count less (inl all) = inl (omega (arith, less, all))
   opened_takes a b e count less (inr (most, end)) = inr (omega (arith, less, most), end)
 
-  -- a child without a byte of its own is the last, since any other entry takes a byte behind it
+  -- a child without a byte of its own is the last, since after it any other entry takes a byte
   child_takes : (d : ℕ) (f : Form) (xs : Nodes L) (b : ℕ) (m : Mark) (key : Option L) (c : ℕ) (n : Mark) (g e one : ℕ) → b ≤ c → w.entry f i b m key c n
       → HaveBytes i c g one → g ≤ length i → NodesLie w f i (suc d) xs g n e → HaveBytes i g e (sizes xs) → HaveBytes i b e (one + sizes xs)
   child_takes d f xs b m key c n g e one up entry (inl all) within lie (inl rest) = inl (omega (arith, up, all, rest))

@@ -1,0 +1,7 @@
+-- to be believed, in this order
+pub mod TreeMembers
+pub mod Requests
+pub mod LineBodies
+pub mod Replayed
+-- for private clauses
+pub mod Private

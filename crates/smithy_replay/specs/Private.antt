@@ -1,0 +1,3 @@
+-- Words that private clauses cite.
+pub mod FitsOnce
+pub mod LineAnswers
