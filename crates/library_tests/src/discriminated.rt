@@ -49,6 +49,7 @@ fn settings_are_not_compared(rt: HostRuntime) -> Result<(), Fail> {
 }
 
 // Settings that tell the protocol alone.
+#[derive(Drop)]
 struct Protocol;
 
 impl DocumentSettings for Protocol {
@@ -62,7 +63,7 @@ impl DocumentSettings for Protocol {
 // Whether the error is that no settings say what stands there.
 fn is_unsupported<T>(answer: &Result<T, DocumentError>) -> bool {
     match answer {
-        Err(DocumentError::UnsupportedOperation(_)) => true,
+        Err(DocumentError::UnsupportedOperation { .. }) => true,
         _ => false,
     }
 }

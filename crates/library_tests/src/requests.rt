@@ -39,7 +39,7 @@ impl<'s> SerializableStruct for Scan<'s> {
 }
 
 // The request of Scan of Amazon DynamoDB.
-fn scan(alloc: Global, input: &Scan<'_>) -> Result<Request, Fail> {
+fn scan_request(alloc: Global, input: &Scan<'_>) -> Result<Request, Fail> {
     let config = ProtocolConfig {
         operation: Some(String::from_str(alloc, "Scan")?),
         service_name: Some(String::from_str(alloc, "DynamoDB_20120810")?),
@@ -71,7 +71,7 @@ fn a_request_is_made(rt: HostRuntime) -> Result<(), Fail> {
         table_name: "Books",
         limit: 10,
     };
-    let request = scan(alloc, &input)?;
+    let request = scan_request(alloc, &input)?;
     assert!(rt; request.headers.get("x-amz-target") == Some("DynamoDB_20120810.Scan"));
     assert!(rt; request.body.as_slice() == b"{\"TableName\":\"Books\",\"Limit\":10}".as_slice());
     Ok(())

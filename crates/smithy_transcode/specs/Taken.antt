@@ -1,5 +1,5 @@
 -- That a value which a wire can express can be written, also in the middle of a body.
-use Rattle.std.specs.Prelude.{◌≡◌, ◌≢◌, ℕ, List, true, Ok, IsOk}
+use Rattle.std.specs.Prelude.{◌≡◌, ◌≢◌, ℕ, List, [], true, Ok, IsOk}
 use Rattle.std.specs.List.{AllByRecursion}
 use Rattle.smithy_declarations.specs.Value.{Value}
 use Rattle.smithy_shapes.specs.Site.{Site}
