@@ -3,6 +3,7 @@
 use cbor_item::ItemError;
 use smithy_cbor::{CborType, DecodeKind, EncodeError};
 use smithy_compare::CompareError;
+use smithy_error_bodies::ErrorBodyFault;
 use smithy_json::EscapeError;
 use smithy_model::ModelFault;
 use smithy_model_table::WantedFault;
@@ -42,6 +43,7 @@ fn want_of_memory_prints_its_name(rt: HostRuntime) {
     assert!(rt; prints(alloc, ModelFault::NoMemory, name));
     assert!(rt; prints(alloc, WantedFault::NoMemory, name));
     assert!(rt; prints(alloc, TextFault::NoMemory, name));
+    assert!(rt; prints(alloc, ErrorBodyFault::NoMemory, name));
 }
 
 #[test]
@@ -74,15 +76,28 @@ fn what_a_caller_states_prints_its_name(rt: HostRuntime) {
     assert!(rt; prints(alloc, Failed, "Failed"));
     assert!(rt; prints(alloc, LoadFault::Failed, "Failed"));
     assert!(rt; prints(alloc, LoadFault::TooLong, "TooLong"));
+    assert!(rt; prints(alloc, ErrorBodyFault::InvalidInput, "InvalidInput"));
+}
+
+#[test]
+fn what_is_no_model_and_no_table_prints_its_name(rt: HostRuntime) {
+    let alloc = rt.alloc();
+    assert!(rt; prints(alloc, ModelFault::NotJson, "NotJson"));
+    assert!(rt; prints(alloc, ModelFault::NameTwice, "NameTwice"));
+    assert!(rt; prints(alloc, ModelFault::NotAModel, "NotAModel"));
     assert!(rt; prints(alloc, ModelFault::BadShape("a#B"), "BadShape"));
-    assert!(rt;
-        prints(
-            alloc,
-            WantedFault::TableRefused(TableFault::TooMany(1)),
-            "TableRefused"
-        )
-    );
+    assert!(rt; prints(alloc, ModelFault::UnknownTarget("a#B"), "UnknownTarget"));
+    assert!(rt; prints(alloc, ModelFault::BadMixin("a#B"), "BadMixin"));
+    assert!(rt; prints(alloc, ModelFault::Applied("a#B"), "Applied"));
+    assert!(rt; prints(alloc, WantedFault::NoSuchName, "NoSuchName"));
+    assert!(rt; prints(alloc, WantedFault::NoDeclaration, "NoDeclaration"));
+    assert!(rt; prints(alloc, WantedFault::TooLong, "TooLong"));
+    let refused = TableFault::TooMany(1);
+    assert!(rt; prints(alloc, WantedFault::TableRefused(refused), "TableRefused"));
+    assert!(rt; prints(alloc, WantedFault::Unwritable, "Unwritable"));
+    assert!(rt; prints(alloc, TextFault::TooLong, "TooLong"));
     assert!(rt; prints(alloc, TextFault::Unwritable, "Unwritable"));
+    assert!(rt; prints(alloc, TextFault::Refused(refused), "Refused"));
 }
 
 // Whether a value prints as this text for debugging.

@@ -32,7 +32,7 @@ returns-in-Ok-serialize_request-clause-body c =
     let at_root = c.schema-schema.ensures.site in
     let ms = members_in v in
     let is : v ≡ structure ms = is_structure t (shape_place root) v c.requires.root c.requires.fits in
-    let can = form_takes c.args.action.now c.args.version.now t root v c.requires.fit in
+    let can = form_takes c.args.action.now c.args.version.now (shape_site t root) v c.requires.fit in
     let has = rw (c.new.ensures, c.in-Ok.ensures) at c.in-Ok-serialize_request.ensures.canonical in
     has ms (λ s r runs. rw (c.new-written.ensures.shape, c.new-written.ensures.value) at runs)
     (ap (λ (s : Site). s.view.name) at_root) (subst (λ (s : Site). IsAccepted s.table) (sym at_root) c.schema-schema.ensures.accepted)
@@ -49,7 +49,7 @@ no_memory-requires c =
     let v = view c.args.value.now in
     let e = c.in-Err-serialize_request.error in
     let ms = members_in v in
-    let can = form_takes c.args.action.now c.args.version.now t root v c.requires.fit in
+    let can = form_takes c.args.action.now c.args.version.now (shape_site t root) v c.requires.fit in
     let same = ap (λ x. member_events (site_of x) (members_in (view c.new-written.result.value.now))) c.new-written.ensures.shape ∙ ap (λ y. member_events (site_of c.schema-schema.result) (members_in (view y))) c.new-written.ensures.value in
     let why = rw (c.new.ensures, c.in-Ok.ensures) at c.in-Err-serialize_request.ensures.refused in
     ⊎_elim (λ same. same)
