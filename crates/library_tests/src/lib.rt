@@ -25,6 +25,8 @@ mod process;
 #[cfg(test)]
 mod readers;
 #[cfg(test)]
+mod replays;
+#[cfg(test)]
 mod requests;
 #[cfg(test)]
 mod sizes;

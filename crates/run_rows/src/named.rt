@@ -37,6 +37,7 @@ fn plain_status(name: &str) -> Option<Status> {
         "NotAStructure" => Some(Status::NotAStructure),
         "TooLong" => Some(Status::TooLong),
         "Differs" => Some(Status::Differs),
+        "LinesRefused" => Some(Status::LinesRefused),
         _ => None,
     }
 }

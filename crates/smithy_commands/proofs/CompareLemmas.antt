@@ -10,7 +10,7 @@ use Rattle.smithy_compare.specs.declared.comparing.Compared.TheVariants as compa
 use Rattle.smithy_compare.specs.declared.comparing.CompareError.TheVariants.{First, Second, NoMemory}
 use Rattle.smithy_compare.specs.declared.comparing.CompareError.{CompareError}
 use Rattle.smithy_commands.specs.declared.status.Status.{Status}
-use Rattle.smithy_commands.specs.declared.status.Status.TheVariants.{Done, Usage, ReadFailed, WriteFailed, OutOfMemory, TableRefused, NoSuchShape, NotAStructure, TooLong, Differs}
+use Rattle.smithy_commands.specs.declared.status.Status.TheVariants.{Done, Usage, ReadFailed, WriteFailed, OutOfMemory, InvalidInput, TooDeep, TooWide, NotCarried, Inexpressible, TableRefused, NoSuchShape, NotAStructure, TooLong, Differs, SecondInvalidInput, SecondTooDeep, SecondTooWide, SecondNotCarried}
 use Rattle.smithy_commands.specs.Status.{tells_output, status_of_error}
 use Rattle.smithy_commands.specs.Checks.{longest_table, longest_input, IsLoaded, IsTooLong, IsRoot, AfterTable, AfterRoot}
 use Rattle.smithy_commands.specs.Compare.{Compare, status_of_second_error, status_of_compare_error, status_of_compared, status_of_comparison, FilesTold, MetFault, AfterFirst, AfterBoth, Answers, answer_line, AfterComparing, RefusesBody, Refuses, Says, AllIsInOrder, CompareAnswer, IsFound, IsFoundIn, FailsToCompare}
@@ -223,11 +223,17 @@ steady_of c old new table first second out status says = (
 
 -- whether a body that is refused may have the status
 abbrev is_of_error : Status → Bool
-is_of_error Done = false
-is_of_error Differs = false
-is_of_error WriteFailed = false
-is_of_error Usage = false
-is_of_error _ = true
+is_of_error OutOfMemory = true
+is_of_error InvalidInput = true
+is_of_error TooDeep = true
+is_of_error TooWide = true
+is_of_error NotCarried = true
+is_of_error (Inexpressible u) = true
+is_of_error SecondInvalidInput = true
+is_of_error SecondTooDeep = true
+is_of_error SecondTooWide = true
+is_of_error SecondNotCarried = true
+is_of_error _ = false
 
 of_error : (e : TranscodeError) → is_of_error (status_of_error e) ≡ true
 of_error errors.InvalidInput = refl
@@ -267,11 +273,23 @@ refusal_says c old new WriteFailed (inr by) = absurd (not_of_error c old.files W
 refusal_says c old new _ why = why
 
 refusal_tells_nothing : (c : Compare) (old new : Environment) (status : Status) → Refuses c old.files new.files status → tells_output status ≡ true → ⊥
-refusal_tells_nothing c old new Done (inl why) answer = why
-refusal_tells_nothing c old new Done (inr by) answer = not_of_error c old.files Done by refl
-refusal_tells_nothing c old new Differs (inl why) answer = why
-refusal_tells_nothing c old new Differs (inr by) answer = not_of_error c old.files Differs by refl
-refusal_tells_nothing c old new _ why answer = cc
+refusal_tells_nothing c old new ReadFailed why answer = cc
+refusal_tells_nothing c old new OutOfMemory why answer = cc
+refusal_tells_nothing c old new InvalidInput why answer = cc
+refusal_tells_nothing c old new TooDeep why answer = cc
+refusal_tells_nothing c old new TooWide why answer = cc
+refusal_tells_nothing c old new NotCarried why answer = cc
+refusal_tells_nothing c old new (Inexpressible u) why answer = cc
+refusal_tells_nothing c old new (TableRefused fault) why answer = cc
+refusal_tells_nothing c old new NoSuchShape why answer = cc
+refusal_tells_nothing c old new NotAStructure why answer = cc
+refusal_tells_nothing c old new TooLong why answer = cc
+refusal_tells_nothing c old new SecondInvalidInput why answer = cc
+refusal_tells_nothing c old new SecondTooDeep why answer = cc
+refusal_tells_nothing c old new SecondTooWide why answer = cc
+refusal_tells_nothing c old new SecondNotCarried why answer = cc
+refusal_tells_nothing c old new _ (inl why) answer = why
+refusal_tells_nothing c old new _ (inr by) answer = not_of_error c old.files _ by refl
 
 -- what holds of what was found and of its line, if P does
 after_weaker : (c : Compare) (files : FilesTold) (P Q : Compared → List ℕ → Type 0) → ((found : Compared) (line : List ℕ) → P found line → Q found line)
@@ -283,6 +301,11 @@ after_weaker c files P Q f after =
     let second = first.2 in
     let found = second.2 in
     (after.0, after.1, (table.0, table.1, (root.0, root.1, (first.0, first.1, (second.0, second.1, (found.0, found.1, f found.0 _ found.2))))))
+
+-- no other status comes with what was found
+neither : (status : Status) (found : Compared) → status ≡ status_of_compared found → (status ≡ Done → ⊥) → (status ≡ Differs → ⊥) → ⊥
+neither status compared.Same is done differs = done is
+neither status (compared.Differs path) is done differs = differs is
 
 found_is_told : (found : Compared) → tells_output (status_of_compared found) ≡ true
 found_is_told compared.Same = refl
@@ -327,7 +350,7 @@ module _ (c : Compare) (files files_behind : List ℕ → Shown) (input out out_
   found_says Differs told =
       after_weaker c files (λ found text. (Differs ≡ status_of_compared found) × Took text out out_behind) (λ found text. (found ≢ compared.Same) × Took text out out_behind)
       (λ found text p. (other_alone found p.0, p.1)) told
-  found_says _ told = let is = told.2.2.2.2.2.2.0 in let all = found_is_told told.2.2.2.2.2.0 in absurd (cc (is, all))
+  found_says _ told = absurd (neither _ told.2.2.2.2.2.0 told.2.2.2.2.2.2.0 (λ e. cc e) (λ e. cc e))
 
   module _ (status : Status) (line : List ℕ) (found : IsFoundIn c files status line) where
     answered : tells_output status ≡ true

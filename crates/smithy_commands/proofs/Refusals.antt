@@ -1,5 +1,5 @@
 -- What the checks that commands share say where they fail.
-use Rattle.std.proofs.Common.{◌≡◌, ◌≢◌, ◌∙◌, inl, inr, ℕ, List, Result, Err, IsErrOf, refl}
+use Rattle.std.proofs.Common.{◌≡◌, ◌≢◌, ◌<◌, ◌∙◌, inl, inr, ℕ, List, length, Some, Result, Err, IsErrOf, refl, sym, ap, subst, arith}
 use Rattle.std.specs.declared.vec.Vec.{Vec}
 use Rattle.std.specs.declared.alloc.Global.{Global}
 use Rattle.smithy_outside.specs.declared.outside.LoadFault.{LoadFault}
@@ -10,12 +10,13 @@ use Rattle.smithy_declarations.specs.Decl.{Decl}
 use Rattle.smithy_declarations.specs.TableText.{Lines, declarations, declarations_of}
 use Rattle.smithy_declarations.specs.Acceptance.{accepted, refused, bad_line, build_of, table_of}
 use Rattle.smithy_declarations.specs.DeclViews.{IsRefusedBy, IsLineFault}
-use Rattle.smithy_declarations.specs.Table.{Table}
-use Rattle.smithy_outside.specs.Outside.{Shown, MetNoFault, GavePast, IsCountedLoad}
+use Rattle.smithy_declarations.specs.Table.{Table, IsStructure, kind_of, shape_place, declared_as}
+use Rattle.smithy_outside.specs.Outside.{Shown, MetNoFault, Shows, GavePast, IsCountedLoad}
+use Rattle.smithy_outside.proofs.Moved.{gave_longer}
 use Rattle.smithy_commands.specs.Status.{status_of_load_fault, status_of_table_fault}
 use Rattle.smithy_commands.specs.declared.status.Status.{Status}
 use Rattle.smithy_commands.specs.declared.status.Status.TheVariants.{ReadFailed, OutOfMemory, TableRefused, NoSuchShape, NotAStructure, TooLong}
-use Rattle.smithy_commands.specs.Checks.{longest_table, longest_input, Sources, IsLoaded, IsRoot, RefusesChecks}
+use Rattle.smithy_commands.specs.Checks.{longest_table, longest_input, Sources, IsLoaded, IsInOrder, IsRoot, RefusesTable, RefusesTableChecks, RefusesChecks}
 use Rattle.smithy_commands.specs.Private.Stages.{FailsToLoad, FailsToFind}
 
 pub table_of_bad_line : (text : List ℕ) (n : ℕ) → declarations_of text ≡ Lines.bad_line n → table_of text ≡ refused bad_line n
@@ -65,11 +66,15 @@ abbrev refused_by : Status → Result (Vec ℕ Global) Status
 refused_by status = Err status
 
 -- a read that is refused otherwise than by a fault meets none
+pub well_unless_read_failed : (fault : LoadFault) (old new : Shown) → IsCountedLoad (unread fault) old new → status_of_load_fault fault ≢ ReadFailed
+    → MetNoFault old new
+well_unless_read_failed load_faults.Failed old new counts other = absurd (other refl)
+well_unless_read_failed load_faults.TooLong old new counts other = counts
+well_unless_read_failed load_faults.NoMemory old new counts other = counts
+
 pub well_unless_failed : (fault : LoadFault) (old new : Shown) → IsCountedLoad (unread fault) old new → refused_by (status_of_load_fault fault) ≢ refused_by ReadFailed
     → MetNoFault old new
-well_unless_failed load_faults.Failed old new counts other = absurd (other refl)
-well_unless_failed load_faults.TooLong old new counts other = counts
-well_unless_failed load_faults.NoMemory old new counts other = counts
+well_unless_failed fault old new counts other = well_unless_read_failed fault old new counts (λ e. other (ap refused_by e))
 
 -- the table wasn't loaded
 pub load_refuses : (root_name : List ℕ) (old new : Sources) (status : Status) → new.input ≡ old.input → FailsToLoad old.table new.table status
@@ -94,3 +99,61 @@ module _ (root_name : List ℕ) (old new : Sources) (text : List ℕ) (table : T
   read_refuses root there load_faults.Failed well counts long = inr (text, loaded, (table, is, (root, there, (well, counts))))
   read_refuses root there load_faults.TooLong well counts long = inr (text, loaded, (table, is, (root, there, long refl)))
   read_refuses root there load_faults.NoMemory well counts long = tt
+
+-- ---- a table that isn't loaded, and one without the root
+
+pub table_unloaded : (root_name : List ℕ) (old new : Shown) (status : Status) → FailsToLoad old new status → RefusesTableChecks root_name old new status
+table_unloaded root_name old new ReadFailed why = why
+table_unloaded root_name old new OutOfMemory why = tt
+table_unloaded root_name old new TooLong why = why
+table_unloaded root_name old new (TableRefused fault) why = why
+table_unloaded root_name old new _ why = absurd why
+
+pub root_missing : (root_name : List ℕ) (old new : Shown) (text : List ℕ) (table : Table) → IsLoaded longest_table text old → table_of text ≡ accepted table → (status : Status)
+    → FailsToFind table root_name status → RefusesTableChecks root_name old new status
+root_missing root_name old new text table loaded is NoSuchShape why = (text, loaded, (table, is, why))
+root_missing root_name old new text table loaded is NotAStructure why = (text, loaded, (table, is, why))
+root_missing root_name old new text table loaded is _ why = absurd why
+
+-- what refuses the table refuses a command before its input
+pub table_refuses : (root_name : List ℕ) (old new : Sources) (status : Status) → new.input ≡ old.input → RefusesTableChecks root_name old.table new.table status
+    → RefusesChecks root_name old new status
+table_refuses root_name old new ReadFailed kept why = inl (kept, why)
+table_refuses root_name old new OutOfMemory kept why = tt
+table_refuses root_name old new TooLong kept why = inl (kept, why)
+table_refuses root_name old new _ kept why = (kept, why)
+
+-- ---- a table that is told and in order
+
+-- what gave more than the limit had more
+pub past_limit : (limit : ℕ) (a b : Shown) (was : List ℕ) → GavePast limit a b → Shows a was → limit < length was
+past_limit limit a b was past told = gave_longer limit past.0 a b past.1 (omega (arith, past.2)) was told
+
+module _ (root_name text : List ℕ) (old new : Shown) (table : Table) (root : ℕ) (file : IsInOrder longest_table text old new) (is : table_of text ≡ accepted table)
+    (there : IsRoot root_name table root) where
+  same_text : (found : List ℕ) → IsLoaded longest_table found old → table_of found ≡ accepted table
+  same_text found loaded = subst (λ (t : List ℕ). table_of t ≡ accepted table) (sym (loaded.whole text file.told)) is
+
+  same_table : (found : List ℕ) → IsLoaded longest_table found old → (other : Table) → table_of found ≡ accepted other → table ≡ other
+  same_table found loaded other found_is = let same = same_text found loaded in cc (same, found_is)
+
+  named_there : (other : Table) → table ≡ other → declared_as other root_name ≡ Some root
+  named_there other same = subst (λ (t : Table). declared_as t root_name ≡ Some root) same there.named
+
+  structure_there : (other : Table) → table ≡ other → IsStructure (kind_of other (shape_place root))
+  structure_there other same = subst (λ (t : Table). IsStructure (kind_of t (shape_place root))) same there.structure
+
+  same_root : (other : Table) → table ≡ other → (n : ℕ) → declared_as other root_name ≡ Some n → root ≡ n
+  same_root other same n named = let first = named_there other same in cc (first, named)
+
+  -- isn't refused
+  pub table_holds : (status : Status) → RefusesTable root_name old status → ⊥
+  table_holds (TableRefused fault) after = let same = same_text after.0 after.1 in let told = after.2.3 in cc (same, told)
+  table_holds NoSuchShape after =
+      let named = named_there after.2.0 (same_table after.0 after.1 after.2.0 after.2.1) in let none = after.2.2 in cc (named, none)
+  table_holds NotAStructure after =
+      let other = after.2.0 in
+      let t = same_table after.0 after.1 other after.2.1 in
+      let n = after.2.2.0 in
+      after.2.2.2 (subst (λ (m : ℕ). IsStructure (kind_of other (shape_place m))) (same_root other t n after.2.2.1) (structure_there other t))
+  table_holds _ why = why

@@ -12,7 +12,7 @@ use Rattle.smithy_transcode.specs.Transcoding.{TellsAgain, Transcodes}
 use Rattle.smithy_transcode.specs.Wires.{unfit}
 use Rattle.smithy_transcode.proofs.Transcodings.{one_value, not_both}
 use Rattle.smithy_commands.specs.declared.status.Status.{Status}
-use Rattle.smithy_commands.specs.declared.status.Status.TheVariants.{Done, Usage, ReadFailed, WriteFailed, OutOfMemory, InvalidInput, TooDeep, TooWide, NotCarried, Inexpressible, TableRefused, NoSuchShape, NotAStructure, TooLong, Differs}
+use Rattle.smithy_commands.specs.declared.status.Status.TheVariants.{Done, Usage, ReadFailed, WriteFailed, OutOfMemory, InvalidInput, TooDeep, TooWide, NotCarried, Inexpressible, TableRefused, NoSuchShape, NotAStructure, TooLong}
 use Rattle.smithy_commands.specs.Status.{tells_output, status_of_error}
 use Rattle.smithy_commands.specs.Checks.{longest_table, longest_input, Sources, IsLoaded, IsRoot, IsRead, AfterInput, RefusesChecks}
 use Rattle.smithy_commands.specs.Transcode.{Transcode, sources_of, AfterTranscoding, Refuses, Says, AllIsInOrder, TranscodeAnswer}
@@ -183,8 +183,19 @@ steady_of task old new file input out status says = (
 -- the one answer is a body
 answer_is_done : (task : Transcode) (old new : Environment) (status : Status) → Says task old new status → tells_output status ≡ true → status ≡ Done
 answer_is_done task old new Done says answer = refl
-answer_is_done task old new Differs says answer = absurd says.1
-answer_is_done task old new _ says answer = cc
+answer_is_done task old new ReadFailed says answer = cc
+answer_is_done task old new WriteFailed says answer = cc
+answer_is_done task old new OutOfMemory says answer = cc
+answer_is_done task old new InvalidInput says answer = cc
+answer_is_done task old new TooDeep says answer = cc
+answer_is_done task old new TooWide says answer = cc
+answer_is_done task old new NotCarried says answer = cc
+answer_is_done task old new (Inexpressible u) says answer = cc
+answer_is_done task old new (TableRefused fault) says answer = cc
+answer_is_done task old new NoSuchShape says answer = cc
+answer_is_done task old new NotAStructure says answer = cc
+answer_is_done task old new TooLong says answer = cc
+answer_is_done task old new _ says answer = absurd says.1
 
 done_is_answer : (status : Status) → tells_output status ≡ false → status ≢ Done
 done_is_answer status other = λ done. absurd (let e : true ≡ false = subst (λ (s : Status). tells_output s ≡ false) done other in cc)

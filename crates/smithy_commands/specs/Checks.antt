@@ -67,6 +67,18 @@ abbrev pub AfterInput : List ℕ → Sources → Sources → (Table → ℕ → 
 AfterInput root_name old new P =
     AfterRoot root_name old.table (λ table root. (input : List ℕ) × IsRead input old.input new.input × P table root input)
 
+-- the file holds this table, which has this root
+pub record PassesTableChecks (root_name : List ℕ) (file : Shown) (table : Table) (root : ℕ) : Type 0 where
+  pub text : List ℕ
+  pub loaded : IsLoaded longest_table text file
+  pub accepted_as : table_of text ≡ accepted table
+  pub is_root : IsRoot root_name table root
+
+-- the checks passed with this table, this root of it, and this input
+pub record PassesChecks (root_name : List ℕ) (old new : Sources) (table : Table) (root : ℕ) (input : List ℕ) : Type 0 where
+  pub checked : PassesTableChecks root_name old.table table root
+  pub read : IsRead input old.input new.input
+
 -- P holds, and the input tells and counts what it did before
 abbrev pub BeforeInput : Sources → Sources → Type 0 → Type 0
 BeforeInput old new P = (new.input ≡ old.input) × P
@@ -84,6 +96,13 @@ RefusesTable root_name file NotAStructure =
     AfterTable file (λ table. (root : ℕ) × (declared_as table root_name ≡ Some root)
     × ¬ IsStructure (kind_of table (shape_place root)))
 RefusesTable root_name file _ = ⊥
+
+-- by the status, the table wasn't read or is too long, or memory ran out, or the table has no such root
+abbrev pub RefusesTableChecks : List ℕ → Shown → Shown → Status → Type 0
+RefusesTableChecks root_name old new ReadFailed = MetOneFault old new
+RefusesTableChecks root_name old new TooLong = IsTooLong longest_table old
+RefusesTableChecks root_name old new OutOfMemory = Unit {0}
+RefusesTableChecks root_name old new status = RefusesTable root_name old status
 
 -- why a command didn't come to its input, or couldn't read it: by the status, the table or the input wasn't read, or is too long, or
 -- memory was wanting, or the table has no such root

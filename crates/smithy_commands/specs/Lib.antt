@@ -6,6 +6,8 @@ pub mod Checks
 pub mod Transcode
 pub mod Gen
 pub mod Compare
+pub mod Lines
+pub mod Replay
 pub mod Command
 pub mod RunAnswer
 pub mod System

@@ -12,7 +12,7 @@ use Rattle.smithy_outside.specs.declared.outside.LoadFault.{LoadFault}
 use Rattle.smithy_outside.specs.declared.outside.LoadFault.TheVariants as load_faults
 use Rattle.smithy_commands.specs.declared.status.Status.{Status}
 use Rattle.smithy_transcode.specs.declared.wire.Unfit.TheVariants.{Document, Null, Instant}
-use Rattle.smithy_commands.specs.declared.status.Status.TheVariants.{Done, Usage, ReadFailed, WriteFailed, OutOfMemory, InvalidInput, TooDeep, TooWide, NotCarried, Inexpressible, TableRefused, NoSuchShape, NotAStructure, TooLong, Differs, SecondInvalidInput, SecondTooDeep, SecondTooWide, SecondNotCarried}
+use Rattle.smithy_commands.specs.declared.status.Status.TheVariants.{Done, Usage, ReadFailed, WriteFailed, OutOfMemory, InvalidInput, TooDeep, TooWide, NotCarried, Inexpressible, TableRefused, NoSuchShape, NotAStructure, TooLong, Differs, SecondInvalidInput, SecondTooDeep, SecondTooWide, SecondNotCarried, LinesRefused}
 
 -- the number that the program ends with: that of an error of `transcode`, or one of its own
 abbrev pub status_code : Status → ℕ
@@ -35,6 +35,7 @@ status_code SecondInvalidInput = 41
 status_code SecondTooDeep = 42
 status_code SecondTooWide = 43
 status_code SecondNotCarried = 44
+status_code LinesRefused = 50
 
 -- standard error takes no line; with any other status it takes one
 abbrev pub is_answer : Status → Bool
@@ -46,6 +47,7 @@ is_answer _ = false
 abbrev pub tells_output : Status → Bool
 tells_output Done = true
 tells_output Differs = true
+tells_output LinesRefused = true
 tells_output _ = false
 
 -- where a file or the input wasn't read
@@ -111,6 +113,7 @@ text_of SecondInvalidInput = codes "invalid input"
 text_of SecondTooDeep = codes "too deep"
 text_of SecondTooWide = codes "number too wide"
 text_of SecondNotCarried = codes "not carried"
+text_of LinesRefused = codes "lines refused"
 
 -- the line of a status that is no answer
 abbrev pub line_of : Status → List ℕ

@@ -1,13 +1,13 @@
-//! The checks that commands share: the table of a file, and the root in it.
-ghost use Rattle.std.specs.Prelude.{◌≡◌, ◌≢◌, ◌≤◌, ℕ, List, Some, IfOk, IfErr};
+//! The checks that commands share: the table of a file, the root in it, and the input.
+ghost use Rattle.std.specs.Prelude.{◌≡◌, ◌≢◌, ◌≤◌, ◌+◌, ℕ, List, length, Some, IfOk, IfErr};
 ghost use Rattle.smithy_declarations.specs.Table.{IsStructure, kind_of, shape_place, declared_as};
 ghost use Rattle.smithy_declarations.specs.Acceptance.{accepted, table_of};
-ghost use Rattle.smithy_outside.specs.Outside.{MetNoFault};
-ghost use Rattle.smithy_commands.specs.Checks.{longest_table, IsLoaded};
+ghost use Rattle.smithy_outside.specs.Outside.{MetNoFault, Gave};
+ghost use Rattle.smithy_commands.specs.Checks.{longest_table, longest_input, IsLoaded, PassesTableChecks, RefusesTableChecks, PassesChecks, RefusesChecks};
 ghost use Rattle.smithy_commands.specs.Private.Stages.{FailsToRead, FailsToLoad, FailsToFind};
 
 use crate::status::Status;
-use smithy_outside::Files;
+use smithy_outside::{Files, Source, read_to_end};
 use smithy_shapes::{ShapeRef, ShapeType, Shapes, TableText};
 use std::alloc::Global;
 
@@ -63,4 +63,70 @@ pub(crate) fn find_root(table: &Shapes, name: &str) -> Result<ShapeRef, Status>
         ShapeType::Structure => Ok(root),
         _ => Err(Status::NotAStructure),
     }
+}
+
+/// A table, and the structure of it that a command names.
+#[derive(Drop)]
+pub(crate) struct CheckedTable {
+    /// The table.
+    pub table: Shapes,
+    /// The structure.
+    pub root: ShapeRef,
+}
+
+/// Loads the table and finds the root in it.
+pub(crate) fn check_table<F: Files>(
+    alloc: Global,
+    files: &mut F,
+    table: &str,
+    root: &str,
+) -> Result<CheckedTable, Status>
+    ensures passed { IfOk result (λ c. PassesTableChecks root.now (F.told files.old table.now) c.table c.root.0) }
+    ensures refused { IfErr result (RefusesTableChecks root.now (F.told files.old table.now) (F.told files.new table.now)) }
+    ensures no_fault { result ≢ Err Status.ReadFailed → MetNoFault (F.told files.old table.now) (F.told files.new table.now) }
+    ensures kept { (at : List ℕ) → (F.told files.new at).content ≡ (F.told files.old at).content }
+{
+    let shapes = load_table(alloc, files, table)?;
+    let found = find_root(&shapes, root)?;
+    Ok(CheckedTable {
+        table: shapes,
+        root: found,
+    })
+}
+
+/// A table, a structure of it, and the input.
+#[derive(Drop)]
+pub(crate) struct CheckedInput {
+    /// The table and the structure.
+    pub checked: CheckedTable,
+    /// All that the input had left.
+    pub input: Vec<u8>,
+}
+
+/// Loads the table, finds the root in it and reads the input, in this order.
+pub(crate) fn check_input<F: Files, S: Source>(
+    alloc: Global,
+    files: &mut F,
+    input: &mut S,
+    table: &str,
+    root: &str,
+) -> Result<CheckedInput, Status>
+    ensures passed { IfOk result (λ c. PassesChecks root.now
+        (record { table = F.told files.old table.now; input = S.told input.old })
+        (record { table = F.told files.new table.now; input = S.told input.new })
+        c.checked.table c.checked.root.0 c.input.items) }
+    ensures refused { IfErr result (RefusesChecks root.now
+        (record { table = F.told files.old table.now; input = S.told input.old })
+        (record { table = F.told files.new table.now; input = S.told input.new })) }
+    ensures table_met_no_fault { result ≢ Err Status.ReadFailed → MetNoFault (F.told files.old table.now) (F.told files.new table.now) }
+    ensures input_met_no_fault { result ≢ Err Status.ReadFailed → MetNoFault (S.told input.old) (S.told input.new) }
+    ensures kept { (at : List ℕ) → (F.told files.new at).content ≡ (F.told files.old at).content }
+    ensures no_further { (bytes : List ℕ) × Gave bytes (S.told input.old) (S.told input.new) × (length bytes ≤ longest_input + 1) }
+{
+    let checked = check_table(alloc, files, table, root)?;
+    let bytes = read_to_end(alloc, input, MAX_INPUT_LEN)?;
+    Ok(CheckedInput {
+        checked,
+        input: bytes,
+    })
 }

@@ -6,11 +6,15 @@ ghost use Rattle.smithy_commands.specs.RunAnswer.{StatusAnswer};
 
 mod compare;
 mod generate;
+mod lines;
+mod replay;
 mod transcode;
 
 use crate::status::Status;
 use compare::{Compare, compare_files};
 use generate::{Gen, write_generated};
+use lines::{Lines, answer_lines};
+use replay::{Replay, replay_lines};
 use smithy_outside::{Files, Sink, Source};
 use std::alloc::Global;
 use transcode::{Transcode, transcode_input};
@@ -24,6 +28,10 @@ pub enum Command<'a> {
     Gen(Gen),
     /// Two bodies in files, compared as values.
     Compare(Compare<'a>),
+    /// The lines of the input, each from wire to wire.
+    Lines(Lines<'a>),
+    /// The lines of the input, as requests.
+    Replay(Replay<'a>),
 }
 
 impl<'a> Command<'a> {
@@ -38,6 +46,8 @@ impl<'a> Command<'a> {
             "transcode" => Some(Command::Transcode(Transcode::from_words(rest)?)),
             "gen" => Some(Command::Gen(Gen::from_words(rest)?)),
             "compare" => Some(Command::Compare(Compare::from_words(rest)?)),
+            "lines" => Some(Command::Lines(Lines::from_words(rest)?)),
+            "replay" => Some(Command::Replay(Replay::from_words(rest)?)),
             _ => None,
         }
     }
@@ -62,5 +72,7 @@ pub(crate) fn status_of<F: Files, S: Source, K: Sink>(
         Command::Transcode(command) => transcode_input(alloc, command, files, input, out),
         Command::Gen(command) => write_generated(alloc, command, out),
         Command::Compare(command) => compare_files(alloc, command, files, out),
+        Command::Lines(command) => answer_lines(alloc, command, files, input, out),
+        Command::Replay(command) => replay_lines(alloc, command, files, input, out),
     }
 }

@@ -63,6 +63,7 @@ impl RunStatus for Status {
             Status::NoSuchShape => write_bytes(err, b"no such shape"),
             Status::NotAStructure => write_bytes(err, b"not a structure"),
             Status::TooLong => write_bytes(err, b"too long"),
+            Status::LinesRefused => write_bytes(err, b"lines refused"),
         }
     }
 }

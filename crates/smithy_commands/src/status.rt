@@ -48,6 +48,8 @@ pub enum Status {
     SecondTooWide,
     /// The second of two bodies holds a number of seconds that isn't carried as an instant, or what isn't carried as a document.
     SecondNotCarried,
+    /// The output took an answer to each line of the input, and some lines were refused.
+    LinesRefused,
 }
 
 impl Status {
@@ -75,6 +77,7 @@ impl Status {
             Status::SecondTooDeep => 42,
             Status::SecondTooWide => 43,
             Status::SecondNotCarried => 44,
+            Status::LinesRefused => 50,
         }
     }
 

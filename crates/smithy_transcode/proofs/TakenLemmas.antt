@@ -1,5 +1,5 @@
 -- That a value which a wire can express is taken wherever one may come.
-use Rattle.std.proofs.Common.{◌≡◌, ◌≢◌, ◌&&◌, ℕ, List, [], ◌∷◌, ◌++◌, Bool, true, false, None, Result, Ok, IsOk, refl, sym, ◌∙◌, ap, subst}
+use Rattle.std.proofs.Common.{◌≡◌, ℕ, List, [], ◌∷◌, Bool, true, false, None, Result, Ok, IsOk, refl, sym, ◌∙◌, ap, subst}
 use Rattle.smithy_schema.specs.declared.error.SerdeError.{SerdeError}
 use Rattle.smithy_shapes.specs.Accepted.{IsAccepted}
 use Rattle.smithy_shapes.specs.Fits.{FitsOr}

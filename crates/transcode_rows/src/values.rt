@@ -84,6 +84,7 @@ pub fn read<'a>(
 
 /// What the wire lacks for the value at the place of the root.
 pub fn lacking(shapes: &Shapes, root: ShapeRef, value: &Value<'_>, to: &Wire) -> Option<Unfit>
+    requires root { IsStructure (kind_of shapes.now (shape_place root.0)) }
     requires fits { Fits shapes.now (shape_place root.0) (view value.now) }
 {
     let schema = shapes.schema(root);

@@ -1,12 +1,16 @@
 use Rattle.std.proofs.Common.{Some, map, string_bytes, sym, ap, ◌∙◌, refl}
 use Rattle.smithy_outside.specs.Environment.{environment}
 use Rattle.smithy_outside.specs.Outside.{environment_of}
-use Rattle.smithy_commands.specs.Command.{transcode, gen, compare, command_view}
+use Rattle.smithy_commands.specs.Command.{transcode, gen, compare, lines, replay, command_view}
 use Rattle.smithy_commands.specs.Transcode.{transcode_view}
 use Rattle.smithy_commands.specs.Gen.{gen_view}
 use Rattle.smithy_commands.specs.Compare.{compare_view}
+use Rattle.smithy_commands.specs.Lines.{lines_view}
+use Rattle.smithy_commands.specs.Replay.{replay_view}
 use Rattle.smithy_commands.proofs.CompareLemmas.{compare_is_no_usage}
 use Rattle.smithy_commands.proofs.GenLemmas.{gen_is_no_usage}
+use Rattle.smithy_commands.proofs.LinesLemmas.{lines_is_no_usage}
+use Rattle.smithy_commands.proofs.ReplayLemmas.{replay_is_no_usage}
 use Rattle.smithy_commands.proofs.RunLemmas.{status_of_command, status_of_no_command}
 use Rattle.smithy_commands.proofs.TranscodeLemmas.{transcode_is_no_usage}
 use Rattle.smithy_commands.proofs.commands.status_of.Goals as goal
@@ -40,6 +44,24 @@ returns-in-Compare g c =
     let answer = c.compare_files.ensures input in
     status_of_command (map string_bytes c.args.words.now) (compare command) old new c.compare_files.result (sym c.in-Some.ensures ∙ ap (λ x. Some (command_view x)) c.in-Compare.is)
     answer (compare_is_no_usage command old new c.compare_files.result answer) answer.files_are_kept
+
+pub returns-in-Lines : goal.returns-in-Lines
+returns-in-Lines g c =
+    let old = environment g.F.Files g.S.Source g.K.Sink c.args.files.now c.args.input.now c.args.out.now in
+    let new = environment g.F.Files g.S.Source g.K.Sink c.answer_lines.new.files c.answer_lines.new.input c.answer_lines.new.out in
+    let command = lines_view c.in-Lines.command in
+    let answer = c.answer_lines.ensures in
+    status_of_command (map string_bytes c.args.words.now) (lines command) old new c.answer_lines.result (sym c.in-Some.ensures ∙ ap (λ x. Some (command_view x)) c.in-Lines.is)
+    answer (lines_is_no_usage command old new c.answer_lines.result answer) answer.files_are_kept
+
+pub returns-in-Replay : goal.returns-in-Replay
+returns-in-Replay g c =
+    let old = environment g.F.Files g.S.Source g.K.Sink c.args.files.now c.args.input.now c.args.out.now in
+    let new = environment g.F.Files g.S.Source g.K.Sink c.replay_lines.new.files c.replay_lines.new.input c.replay_lines.new.out in
+    let command = replay_view c.in-Replay.command in
+    let answer = c.replay_lines.ensures in
+    status_of_command (map string_bytes c.args.words.now) (replay command) old new c.replay_lines.result (sym c.in-Some.ensures ∙ ap (λ x. Some (command_view x)) c.in-Replay.is)
+    answer (replay_is_no_usage command old new c.replay_lines.result answer) answer.files_are_kept
 
 pub returns-in_default : goal.returns-in_default
 returns-in_default g c =

@@ -1,0 +1,72 @@
+//! Requests of recorded bodies, and of values in another protocol than that of their bodies.
+use smithy_protocol::{ProtocolConfig, Request, RpcV2CborProtocol};
+use smithy_replay::{TreeStruct, request_of};
+use smithy_schema::{ShapeType, Shapes, TableText};
+use smithy_transcode::{Wire, read_body};
+use std::alloc::Global;
+use std::test::Fail;
+
+const TABLE: &[u8] =
+    b"map Item Attribute\nunion Attribute\nmember S string\nmember N string\nstructure PutItemInput\nmember TableName string\nmember Item Item\n";
+
+const BODY: &[u8] =
+    b"{\"Item\":{\"Title\":{\"S\":\"a b\"},\"Pages\":{\"N\":\"7\"}},\"TableName\":\"Books\"}";
+
+// The request of AWS Query for the body.
+fn form_request(alloc: Global, shapes: &Shapes) -> Result<Request, Fail> {
+    let root = shapes.find("PutItemInput").ok_or("no such shape")?;
+    let ShapeType::Structure = shapes.schema(root).shape_type() else {
+        return Err(Fail::from("not a structure"));
+    };
+    Ok(request_of(alloc, shapes, root, "PutItem", "2012-08-10", BODY)?)
+}
+
+// The request of RPC v2 CBOR for the value of the body.
+fn cbor_request(alloc: Global, shapes: &Shapes) -> Result<Request, Fail> {
+    let root = shapes.find("PutItemInput").ok_or("no such shape")?;
+    let schema = shapes.schema(root);
+    let ShapeType::Structure = schema.shape_type() else {
+        return Err(Fail::from("not a structure"));
+    };
+    let json = Wire::Json {
+        use_json_name: false,
+        integral: false,
+    };
+    let value = read_body(alloc, shapes, root, &json, BODY)?;
+    let config = ProtocolConfig {
+        operation: Some(String::from_str(alloc, "PutItem")?),
+        service_name: Some(String::from_str(alloc, "Books")?),
+        namespace: None,
+        version: None,
+    };
+    let written = TreeStruct::new(alloc, schema, &value);
+    Ok(RpcV2CborProtocol::new().serialize_request(alloc, &written, &schema, "", &config)?)
+}
+
+#[test]
+fn a_recorded_body_becomes_a_form(rt: HostRuntime) -> Result<(), Fail> {
+    let alloc = rt.alloc();
+    let shapes = Shapes::build(alloc, TableText::read(alloc, TABLE)?)?;
+    let request = form_request(alloc, &shapes)?;
+    assert!(rt; request.method.as_str() == "POST" && request.uri.as_str() == "/");
+    assert!(rt; request.headers.get("content-type") == Some("application/x-www-form-urlencoded"));
+    assert!(rt; request.headers.get("content-length") == Some("145"));
+    assert!(rt;
+        request.body.as_slice()
+            == b"Action=PutItem&Version=2012-08-10&TableName=Books&Item.entry.1.key=Pages&Item.entry.1.value.N=7&Item.entry.2.key=Title&Item.entry.2.value.S=a%20b".as_slice()
+    );
+    Ok(())
+}
+
+#[test]
+fn a_value_is_a_request_in_another_protocol(rt: HostRuntime) -> Result<(), Fail> {
+    let alloc = rt.alloc();
+    let shapes = Shapes::build(alloc, TableText::read(alloc, TABLE)?)?;
+    let request = cbor_request(alloc, &shapes)?;
+    assert!(rt; request.uri.as_str() == "/service/Books/operation/PutItem");
+    assert!(rt;
+        request.body.as_slice()
+            == b"\xbf\x69TableName\x65Books\x64Item\xbf\x65Pages\xbf\x61N\x617\xff\x65Title\xbf\x61S\x63a b\xff\xff\xff".as_slice()
+    );
+    Ok(())
+}
