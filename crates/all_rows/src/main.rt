@@ -1,16 +1,14 @@
 //! Goes through all rows of test data (docs/ROWS.md).
 #![tactic(auto)]
 
-use codec_rows::Codecs;
-use item_rows::Items;
-use protocol_rows::Requests;
+use body_rows::{Requests, Tables, Transcoding};
+use library_checks::Checks;
+use reader_rows::Codecs;
 use run_rows::Runs;
 use smithy_rows::run;
 use std::io;
 use std::process::ExitCode;
-use table_rows::Tables;
-use text_rows::Texts;
-use transcode_rows::Transcoding;
+use value_rows::{Items, Texts};
 
 fn main(rt: HostRuntime) -> io::Result<ExitCode> {
     let texts = run(&rt, "text/", &Texts)?;
@@ -20,6 +18,7 @@ fn main(rt: HostRuntime) -> io::Result<ExitCode> {
     let requests = run(&rt, "requests/", &Requests)?;
     let runs = run(&rt, "runs/", &Runs)?;
     let models = run(&rt, "models/", &Tables)?;
-    let all = texts && items && calls && bodies && requests && runs && models;
+    let checks = run(&rt, "checks/", &Checks { rt: &rt })?;
+    let all = texts && items && calls && bodies && requests && runs && models && checks;
     Ok(ExitCode::from(if all { 0 } else { 1 }))
 }

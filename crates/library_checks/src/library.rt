@@ -1,0 +1,50 @@
+//! A caller of the libraries, as README.md and docs/LIBRARIES.md show it.
+use smithy_cbor_codec::CborCodec;
+use smithy_json_codec::JsonCodec;
+use smithy_schema::{Accept, FinishSerializer, Shapes, TableText};
+use smithy_transcode::{Value, read_value};
+use std::alloc::Global;
+use sts_client::{AssumeRoleRequest, read_request, write_request};
+
+// The member `a` of a body, or `None` where it spells no structure; `Some(None)` where there is no such member.
+fn member_a(alloc: Global, body: &[u8]) -> Option<Option<i128>> {
+    let table = TableText::read(alloc, b"structure S\nmember a long\n").ok()?;
+    let shapes = Shapes::build(alloc, table).ok()?;
+    let root = shapes.find("S")?;
+    let codec = JsonCodec::strict(false);
+    let mut reader = codec.create_deserializer(alloc, body);
+    match read_value(alloc, &mut reader, &shapes.schema(root)).ok()? {
+        // The members of a structure go by their positions in the table.
+        Value::Structure(members) => match members.get(&0) {
+            Some(Value::Whole(n)) => Some(Some(*n)),
+            _ => Some(None),
+        },
+        _ => None,
+    }
+}
+
+pub fn a_body_is_read(alloc: Global) -> bool {
+    member_a(alloc, b"{\"z\":[1], \"a\" : 7}") == Some(Some(7))
+        && member_a(alloc, b"{}") == Some(None)
+}
+
+// The body in CBOR of a request that a body in JSON spells.
+fn request_in_cbor(alloc: Global, shapes: &Shapes, body: &[u8]) -> Option<Vec<u8>> {
+    let schema = AssumeRoleRequest::accept(shapes, "AssumeRoleRequest")?;
+    let codec = JsonCodec::strict(false);
+    let mut reader = codec.create_deserializer(alloc, body);
+    let request = read_request(&schema, &mut reader).ok()?;
+    let mut writer = CborCodec::strict().create_serializer(alloc);
+    write_request(&mut writer, &schema, &request).ok()?;
+    writer.finish().ok()
+}
+
+const REQUEST: &[u8] =
+    b"list Tags Tag\nstructure Tag\nmember Key string\nmember Value string\nstructure AssumeRoleRequest\nmember RoleArn string\nmember RoleSessionName string\nmember Policy string\nmember DurationSeconds integer\nmember Tags Tags\n";
+
+pub fn a_request_is_read_and_written(alloc: Global) -> Option<bool> {
+    let table = TableText::read(alloc, REQUEST).ok()?;
+    let shapes = Shapes::build(alloc, table).ok()?;
+    let body = request_in_cbor(alloc, &shapes, b"{\"RoleArn\":\"a\"}")?;
+    Some(body.as_slice() == b"\xbf\x67RoleArn\x61a\xff".as_slice())
+}

@@ -1,6 +1,0 @@
-use Rattle.std.proofs.Common.{◌≡◌}
-use Rattle.smithy_schema.specs.Reading.{in_map}
-use Rattle.reader_calls.proofs.longs.last_value.Given as goal
-
-abbrev pub invariant-entries : goal.invariant-entries
-invariant-entries g l = (g.R.ShapeDeserializer.state l.source).inner.within ≡ in_map

@@ -1,0 +1,6 @@
+use Rattle.std.proofs.Common.{◌≡◌}
+use Rattle.smithy_schema.specs.Reading.{in_structure}
+use Rattle.reader_rows.proofs.longs.count_members.Given as goal
+
+abbrev pub invariant-members : goal.invariant-members
+invariant-members g l = (g.R.ShapeDeserializer.state l.source).inner.within ≡ in_structure
