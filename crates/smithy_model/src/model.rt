@@ -93,9 +93,9 @@ pub struct Operation<'a> {
 pub struct Model<'a> {
     pub shapes: Vec<Shape<'a>>,
     pub operations: Vec<Operation<'a>>,
-    /// Members may travel outside of the body: each protocol is `restJson1` or `restXml`.
+    /// Members may travel outside of the body: each known protocol is `restJson1` or `restXml`.
     pub has_http_bindings: bool,
-    /// Each protocol is `ec2Query`.
+    /// Each known protocol is `ec2Query`.
     pub is_ec2: bool,
     /// It is a `service-2.json`.
     pub is_service_json: bool,

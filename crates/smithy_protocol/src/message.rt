@@ -1,7 +1,7 @@
 //! Requests, responses, and what a client says of an operation.
 use crate::headers::Headers;
 
-/// A request, whole but for its signature.
+/// A request, whole but for its signature, and for the header `x-amzn-query-mode` that some services of AWS Query want.
 #[derive(Debug, Drop)]
 pub struct Request {
     /// `POST`.
