@@ -1,14 +1,13 @@
 -- What a status says of `lines`.
 use Rattle.std.proofs.Common.{◌≡◌, ◌≢◌, ◌⊎◌, inl, inr, ℕ, List, Bool, Result, Ok, Err, true, false, refl, subst, ap, arith}
 use Rattle.smithy_declarations.specs.Table.{Table}
-use Rattle.smithy_lines.specs.Lines.{lines_of}
-use Rattle.smithy_lines.specs.Sources.{AnswersEach, EndsEachIn}
+use Rattle.smithy_lines.specs.Sources.{AnswersEach}
 use Rattle.smithy_lines.specs.declared.answer.StreamFault.{StreamFault}
 use Rattle.smithy_lines.specs.declared.answer.StreamFault.TheVariants as faults
 use Rattle.smithy_commands.specs.declared.status.Status.{Status}
 use Rattle.smithy_commands.specs.declared.status.Status.TheVariants.{Done, Usage, ReadFailed, WriteFailed, OutOfMemory, TableRefused, NoSuchShape, NotAStructure, TooLong, Differs, LinesRefused}
 use Rattle.smithy_commands.specs.Status.{tells_output}
-use Rattle.smithy_commands.specs.Checks.{RefusesTable, RefusesTableChecks, PassesTableChecks, AfterRoot}
+use Rattle.smithy_commands.specs.Checks.{RefusesTable, RefusesTableChecks, PassesTableChecks}
 use Rattle.smithy_commands.specs.Lines.{Lines, line_answers, AfterLines, BeforeLines, Says, AllIsInOrder, LinesAnswer}
 use Rattle.smithy_commands.proofs.Refusals.{table_holds}
 use Rattle.smithy_outside.specs.Outside.{Shown, Environment, missing, MetOneFault, MetNoFault}
@@ -44,7 +43,7 @@ module _ (c : Lines) (old new : Environment) where
   out_counts : (result : Result Bool StreamFault) → AfterLines c old new result → OutCounts result old.out new.out
   out_counts (Ok false) after = let lines = after.2.2.2 in lines.2.2.3
   out_counts (Ok true) after = let lines = after.2.2.2 in lines.2.2.3
-  out_counts (Err faults.ReadFailed) after = let lines = after.2.2.2 in lines.2.1.5.3
+  out_counts (Err faults.ReadFailed) after = let lines = after.2.2.2 in lines.2.1.4.3
   out_counts (Err faults.WriteFailed) after = let lines = after.2.2.2 in lines.2.1
   out_counts (Err faults.NoMemory) after = let lines = after.2.2.2 in lines.2.1
 

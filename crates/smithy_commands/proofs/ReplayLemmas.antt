@@ -1,14 +1,14 @@
 -- What a status says of `replay`.
-use Rattle.std.proofs.Common.{◌≡◌, ◌≢◌, ◌<◌, ◌≤◌, ◌+◌, ◌⊎◌, inl, inr, ℕ, List, length, Bool, Some, None, true, false, refl, sym, subst, ap, ◌∙◌, arith}
+use Rattle.std.proofs.Common.{◌≡◌, ◌≢◌, ◌≤◌, ◌+◌, ◌⊎◌, inl, inr, ℕ, List, length, Bool, true, false, refl, subst, ap, arith}
 use Rattle.smithy_declarations.specs.Table.{Table}
 use Rattle.smithy_lines.specs.Lines.{lines_of}
 use Rattle.smithy_lines.specs.Answered.{TookAll, TookFront}
 use Rattle.smithy_commands.specs.declared.status.Status.{Status}
 use Rattle.smithy_commands.specs.declared.status.Status.TheVariants.{Done, Usage, ReadFailed, WriteFailed, OutOfMemory, TableRefused, NoSuchShape, NotAStructure, TooLong, Differs, LinesRefused}
 use Rattle.smithy_commands.specs.Status.{tells_output}
-use Rattle.smithy_commands.specs.Checks.{longest_table, longest_input, Sources, AfterInput, RefusesTable, RefusesChecks, PassesChecks}
-use Rattle.smithy_commands.specs.Replay.{Replay, sources_of, line_answers, AfterReplay, AfterFront, Says, AllIsInOrder, ReplayAnswer}
-use Rattle.smithy_outside.specs.Outside.{Shown, Environment, missing, MetOneFault, MetNoFault, Shows, Gave, GavePast, Took}
+use Rattle.smithy_commands.specs.Checks.{longest_input, Sources, AfterInput, RefusesTable, RefusesChecks, PassesChecks}
+use Rattle.smithy_commands.specs.Replay.{Replay, sources_of, line_answers, AfterReplay, Says, AllIsInOrder, ReplayAnswer}
+use Rattle.smithy_outside.specs.Outside.{Shown, Environment, missing, MetOneFault, MetNoFault, Gave}
 use Rattle.smithy_outside.proofs.Faults.{has_failed, steady_meets_none}
 use Rattle.smithy_commands.proofs.Refusals.{past_limit, table_holds}
 

@@ -1,5 +1,5 @@
 -- The command `lines TABLE ROOT FROM TO`: its words, and what a status says where they are it.
-use Rattle.std.specs.Prelude.{◌≡◌, ◌≢◌, ◌⊎◌, ℕ, List, ◌∷◌, Bool, true, false, Option, Some, None, Result, Ok, Err, option_and_then, option_map}
+use Rattle.std.specs.Prelude.{◌≡◌, ◌≢◌, ◌⊎◌, ℕ, List, ◌∷◌, Bool, true, false, Option, None, Result, Ok, Err, option_and_then, option_map}
 use Rattle.smithy_declarations.specs.Table.{Table}
 use Rattle.smithy_declarations.specs.Acceptance.{accepted, table_of}
 use Rattle.smithy_transcode.specs.Wires.{Wire}

@@ -14,8 +14,7 @@ use Rattle.smithy_lines.specs.Lines.{line_feed, HasNoFeed, lines_of}
 use Rattle.smithy_lines.specs.Answered.{Answers, TookFront, EndsIn}
 use Rattle.smithy_lines.specs.Sources.{AnswersUpTo, stream_fault, TookEnded, EndsEachIn}
 use Rattle.smithy_lines.specs.Private.SoFar.{IsHeld, ServesFor, HasBegun}
-use Rattle.smithy_lines.proofs.LineLemmas.{last_line}
-use Rattle.smithy_lines.proofs.AnsweredLemmas.{rest_more, rest_closed, rest_ends, rest_begun, all_taken}
+use Rattle.smithy_lines.proofs.AnsweredLemmas.{rest_more, rest_ends, rest_begun, all_taken}
 
 -- a front of the line is held, or the whole line
 front_or_whole : (longest : ℕ) (held line : List ℕ) → IsHeld longest held line → ((longest + 1 ≤ length line) × (length held ≡ longest + 1)) ⊎ ((length line ≤ longest) × (held ≡ line))
@@ -113,19 +112,13 @@ module _ (answers : Answers) (longest : ℕ) where
   pub piece_ends : (taken held piece : List ℕ) (batch : Batch) (start now : Shown) → HasBegun answers longest taken held batch start now → EndsIn answers (lines_of (taken ++ piece)) faults.NoMemory start now
   piece_ends taken held piece batch start now b = rest_ends answers (taken ++ piece) (b.line ++ piece) batch start now (rest_more answers taken b.line piece batch start now b.is_rest)
 
--- bytes without a line feed are one line at most
-one_at_most : (line : List ℕ) → HasNoFeed line → length (lines_of line) ≤ 1
-one_at_most [] none = omega arith
-one_at_most (b ∷ line) none = omega (arith, ap length (last_line b line none))
-
 -- the source failed, and all lines that had ended were answered
-pub ended_taken : (answers : Answers) (longest : ℕ) (taken held : List ℕ) (batch : Batch) (start now : Shown) → HasBegun answers longest taken held batch start now → TookEnded answers (lines_of taken) start now
+pub ended_taken : (answers : Answers) (longest : ℕ) (taken held : List ℕ) (batch : Batch) (start now : Shown) → HasBegun answers longest taken held batch start now → TookEnded answers taken start now
 ended_taken answers longest taken held batch start now b = (
   b.is_rest.done,
-  lines_of b.line,
+  b.line,
   batch.refused,
-  rest_closed taken b.line b.is_rest.done b.is_rest.cut,
-  one_at_most b.line b.none,
+  (b.none, b.is_rest.cut),
   all_taken answers b.is_rest.done batch start now b.is_rest.so_far b.no_answer_waits,
 )
 
@@ -154,6 +147,6 @@ pub none_taken : (answers : Answers) (start : Shown) → TookFront answers (line
 none_taken answers start = ([], [], [], false, refl, (refl, refl), ([], ([], refl), took_nothing start))
 
 -- the source met no fault
-pub ends_each : (answers : Answers) (lines : List (List ℕ)) (e : AnswerFault) (old new was now : Shown) → MetNoFault old new → EndsIn answers lines e was now → EndsEachIn answers lines (stream_fault e) old new was now
-ends_each answers lines faults.WriteFailed old new was now none ends = (none, ends.0, ends.1)
-ends_each answers lines faults.NoMemory old new was now none ends = (none, ends.0, ends.1)
+pub ends_each : (answers : Answers) (taken : List ℕ) (e : AnswerFault) (old new was now : Shown) → MetNoFault old new → EndsIn answers (lines_of taken) e was now → EndsEachIn answers taken (stream_fault e) old new was now
+ends_each answers taken faults.WriteFailed old new was now none ends = (none, ends.0, ends.1)
+ends_each answers taken faults.NoMemory old new was now none ends = (none, ends.0, ends.1)

@@ -5,7 +5,7 @@ use Rattle.smithy_lines.specs.declared.answer.StreamFault.{StreamFault}
 use Rattle.smithy_lines.specs.declared.answer.StreamFault.TheVariants as faults
 use Rattle.smithy_lines.specs.declared.answer.AnswerFault.{AnswerFault}
 use Rattle.smithy_lines.specs.declared.answer.AnswerFault.TheVariants as answer_faults
-use Rattle.smithy_lines.specs.Lines.{lines_of}
+use Rattle.smithy_lines.specs.Lines.{HasNoFeed, lines_of}
 use Rattle.smithy_lines.specs.Answered.{Answers, TookAll, TookFront}
 
 -- A line of at most this many bytes has its answer. A longer line is refused, and the answer that refuses it is chosen by its number.
@@ -18,18 +18,22 @@ abbrev pub stream_fault : AnswerFault → StreamFault
 stream_fault answer_faults.WriteFailed = faults.WriteFailed
 stream_fault answer_faults.NoMemory = faults.NoMemory
 
--- A sink took the answers to all of these lines, or to all but the last of them.
-abbrev pub TookEnded : Answers → List (List ℕ) → Shown → Shown → Type 0
-TookEnded answers lines old new =
-    (ended begun : List (List ℕ)) × (refused : Bool) × (lines ≡ ended ++ begun) × (length begun ≤ 1) × TookAll answers ended refused old new
+-- These lines of the bytes have ended, and another has begun with these bytes: so it is whatever comes after them.
+abbrev pub HaveEnded : (taken : List ℕ) → (ended : List (List ℕ)) → (begun : List ℕ) → Type 0
+HaveEnded taken ended begun = HasNoFeed begun × ((more : List ℕ) → lines_of (taken ++ more) ≡ ended ++ lines_of (begun ++ more))
 
--- The answers to these lines of a source end with a fault after some of them. The source is `old` and then `new`, and the sink `was` and
--- then `now`. Each of them met one fault where the fault is its own, and else none. Before more was asked of the source, the lines that
--- had ended were answered.
-abbrev pub EndsEachIn : Answers → List (List ℕ) → StreamFault → (old new was now : Shown) → Type 0
-EndsEachIn answers lines faults.ReadFailed old new was now = MetOneFault old new × TookEnded answers lines was now
-EndsEachIn answers lines faults.WriteFailed old new was now = MetNoFault old new × MetOneFault was now × TookFront answers lines was now
-EndsEachIn answers lines faults.NoMemory old new was now = MetNoFault old new × MetNoFault was now × TookFront answers lines was now
+-- a sink took the answers to all lines of these bytes that have ended
+abbrev pub TookEnded : Answers → (taken : List ℕ) → Shown → Shown → Type 0
+TookEnded answers taken old new =
+    (ended : List (List ℕ)) × (begun : List ℕ) × (refused : Bool) × HaveEnded taken ended begun × TookAll answers ended refused old new
+
+-- The answers to the lines of these bytes of a source end with a fault after some of them. The source is `old` and then `new`, and the
+-- sink `was` and then `now`. Each of them met one fault where the fault is its own, and else none. Where the source failed, all lines
+-- that had ended were answered.
+abbrev pub EndsEachIn : Answers → (taken : List ℕ) → StreamFault → (old new was now : Shown) → Type 0
+EndsEachIn answers taken faults.ReadFailed old new was now = MetOneFault old new × TookEnded answers taken was now
+EndsEachIn answers taken faults.WriteFailed old new was now = MetNoFault old new × MetOneFault was now × TookFront answers (lines_of taken) was now
+EndsEachIn answers taken faults.NoMemory old new was now = MetNoFault old new × MetNoFault was now × TookFront answers (lines_of taken) was now
 
 -- The lines of what a source gave were answered to its end, and the result says whether one of them is refused; or the answers end with
 -- a fault.
@@ -37,4 +41,4 @@ abbrev pub AnswersEach : Answers → Result Bool StreamFault → (old new was no
 AnswersEach answers result old new was now =
     (taken : List ℕ) × Gave taken old new × MatchResult result
     (λ refused. IsAtEnd new × MetNoFault old new × TookAll answers (lines_of taken) refused was now)
-    (λ e. EndsEachIn answers (lines_of taken) e old new was now)
+    (λ e. EndsEachIn answers taken e old new was now)

@@ -4,7 +4,6 @@ use Rattle.smithy_outside.specs.Outside.{Gave}
 use Rattle.smithy_outside.proofs.Moved.{gave_nothing, gave_more}
 use Rattle.smithy_outside.proofs.Faults.{no_fault_after, fault_after}
 use Rattle.smithy_lines.specs.declared.answer.AnswerFault.TheVariants as answer_faults
-use Rattle.smithy_lines.specs.Lines.{lines_of}
 use Rattle.smithy_lines.specs.Sources.{AnswersUpTo}
 use Rattle.smithy_lines.specs.Private.SoFar.{IsHeld}
 use Rattle.smithy_lines.proofs.AnsweredLemmas.{rest_ends}
@@ -50,7 +49,7 @@ returns-in_err-answer_last-clause-answered g c =
       b.0,
       gave_none b.0 c.read.new.into c.in_ok-count.count (source c.args.source.now) (source c.loop.source) (source c.read.new.self) c.if-count-eq0.true b.1 told.gave,
       rw (p.1, p.2)
-          (ends_each answers (lines_of b.0) c.in_err-answer_last.field-0.0 (source c.args.source.now) (source c.read.new.self) (g.K.Sink.told c.args.out.now) (g.K.Sink.told c.answer_last.new.out)
+          (ends_each answers b.0 c.in_err-answer_last.field-0.0 (source c.args.source.now) (source c.read.new.self) (g.K.Sink.told c.args.out.now) (g.K.Sink.told c.answer_last.new.out)
           (no_fault_after (source c.args.source.now) (source c.loop.source) (source c.read.new.self) c.loop.invariant.no_fault told.counts)
           (c.in_err-answer_last.ensures.answered c.args.longest b.0 b.2.line (g.K.Sink.told c.args.out.now) b.2.none is_held (b.2.serves c.deref.result.now b.2.line is_held) b.2.is_rest)),
     )
@@ -84,7 +83,7 @@ returns-in_err-answer_piece-clause-answered g c =
       subst (λ l. Gave (b.0 ++ l) (source c.args.source.now) (source c.read.new.self)) (sym c.part.ensures)
           (gave_more b.0 (take c.in_ok-count.count c.read.new.into) (source c.args.source.now) (source c.loop.source) (source c.read.new.self) b.1 told.gave),
       rw (p.1, p.2)
-          (ends_each answers (lines_of (b.0 ++ c.part.result.now)) c.in_err-answer_piece.field-0.0 (source c.args.source.now) (source c.read.new.self) (g.K.Sink.told c.args.out.now) (g.K.Sink.told c.answer_piece.new.out)
+          (ends_each answers (b.0 ++ c.part.result.now) c.in_err-answer_piece.field-0.0 (source c.args.source.now) (source c.read.new.self) (g.K.Sink.told c.args.out.now) (g.K.Sink.told c.answer_piece.new.out)
           (no_fault_after (source c.args.source.now) (source c.loop.source) (source c.read.new.self) c.loop.invariant.no_fault told.counts)
           (c.in_err-answer_piece.ensures b.0 (g.K.Sink.told c.args.out.now) b.2)),
     )
@@ -112,6 +111,6 @@ returns-clause-answered g c =
     let b = c.loop.invariant.begun in (
       b.0,
       b.1,
-      ends_each answers (lines_of b.0) answer_faults.NoMemory (source c.args.source.now) (source c.loop.source) (g.K.Sink.told c.args.out.now) (g.K.Sink.told c.loop.out) c.loop.invariant.no_fault
+      ends_each answers b.0 answer_faults.NoMemory (source c.args.source.now) (source c.loop.source) (g.K.Sink.told c.args.out.now) (g.K.Sink.told c.loop.out) c.loop.invariant.no_fault
           (rest_ends answers b.0 b.2.line c.loop.batch (g.K.Sink.told c.args.out.now) (g.K.Sink.told c.loop.out) b.2.is_rest),
     )

@@ -1,7 +1,7 @@
-use Rattle.std.proofs.Common.{refl, inl, inr}
+use Rattle.std.proofs.Common.{refl}
 use Rattle.smithy_outside.specs.Environment.{environment}
 use Rattle.smithy_commands.specs.Replay.{replay_view}
-use Rattle.smithy_commands.proofs.ReplayLemmas.{nothing_replayed, lines_replayed, replay_cut_short, replay_without_memory}
+use Rattle.smithy_commands.proofs.ReplayLemmas.{nothing_replayed}
 use Rattle.smithy_commands.proofs.commands.replay.replay_lines.Goals as goal
 
 pub returns-in-Err : goal.returns-in-Err
