@@ -2,6 +2,17 @@
 //!
 //! A [`Table`] is accepted once. [`Table::transcode`] then writes the canonical body, in the wanted wire, of the value that an input
 //! spells, or says why there is none.
+//!
+//! ```
+//! use smithy_transcode::{Refusal, Source, Table, Target};
+//!
+//! let mut table = Table::accept(b"structure Put\nmember Name string\n")?;
+//! let mut body = Vec::new();
+//! table.transcode("Put", Source::Json, br#"{"Name" : "Emma"}"#, Target::Json, &mut body)?;
+//! assert_eq!(body, br#"{"Name":"Emma"}"#);
+//! # Ok::<(), Refusal>(())
+//! ```
+#![warn(missing_docs)]
 use std::error::Error;
 use std::fmt;
 use std::ptr;

@@ -9,13 +9,16 @@ A table is accepted once. A transcoder answers the canonical body of the value t
 
 from __future__ import annotations
 
-import ctypes
 import itertools
 import os
 import pathlib
-import threading
 from dataclasses import dataclass
 from typing import Iterable, Union
+
+try:
+    from smithy_transcode import _native as _calls
+except ImportError:
+    from smithy_transcode import _ctypes as _calls
 
 __all__ = [
     "CBOR",
@@ -71,8 +74,6 @@ JSON_INTEGRAL = Wire(5, "json-integral")
 JSON_NAME_INTEGRAL = Wire(6, "json-name-integral")
 """The same under the JSON names of members, where they have one."""
 _QUERY = 3
-
-_NO_ROOM = 24
 
 
 class Refused(Exception):
@@ -131,47 +132,25 @@ _REFUSALS = {
 }
 
 
-def _refusal(status: int) -> Exception:
+def _refusal(status: int) -> Refused:
+    """The refusal with this number. It raises a MemoryError where memory ran out."""
     if status == 8:
-        return MemoryError()
+        raise MemoryError
     kind, message = _REFUSALS[status]
     return kind(status, message)
 
 
-class _Handle(ctypes.Structure):
-    """The C struct `smithy_table`, which calls take by value."""
-
-    _fields_ = [("pointer", ctypes.c_void_p)]
-
-
-def _path() -> str:
+def _path() -> bytes:
     """The file that SMITHY_TRANSCODE_LIBRARY names, else the one beside this module, else the one that ./build leaves."""
     named = os.environ.get("SMITHY_TRANSCODE_LIBRARY")
     if named:
-        return named
+        return os.fsencode(named)
     folder = pathlib.Path(__file__).resolve().parent
     beside = folder / "libsmithy_transcode.so"
-    return str(beside if beside.exists() else folder.parent.parent / beside.name)
+    return bytes(beside if beside.exists() else folder.parents[2] / beside.name)
 
 
-def _library() -> ctypes.CDLL:
-    library = ctypes.CDLL(_path())
-    size, text, handle = ctypes.c_size_t, ctypes.c_char_p, ctypes.POINTER(_Handle)
-    library.smithy_transcode_accept.argtypes = [text, size, handle]
-    library.smithy_transcode_accept.restype = ctypes.c_uint8
-    library.smithy_transcode_free.argtypes = [_Handle]
-    library.smithy_transcode_free.restype = None
-    library.smithy_transcode_body.argtypes = [_Handle, handle, text, size, ctypes.c_uint32, ctypes.c_uint32, text, size, text, size,
-                                              text, size, ctypes.c_char_p, size, ctypes.POINTER(size)]
-    library.smithy_transcode_body.restype = ctypes.c_uint8
-    sizes, numbers = ctypes.POINTER(size), ctypes.POINTER(ctypes.c_uint8)
-    library.smithy_transcode_bodies.argtypes = [_Handle, handle, text, size, ctypes.c_uint32, ctypes.c_uint32, text, size, text, size,
-                                                sizes, size, text, size, ctypes.c_char_p, size, sizes, size, numbers, size, sizes]
-    library.smithy_transcode_bodies.restype = ctypes.c_uint8
-    return library
-
-
-_LIBRARY = _library()
+_calls.load(_path())
 
 
 class Table:
@@ -179,12 +158,10 @@ class Table:
 
     def __init__(self, text: bytes):
         """text: the lines of the table."""
-        self._handle = _Handle()
-        self._lock = threading.Lock()
-        text = bytes(text)
-        status = _LIBRARY.smithy_transcode_accept(text, len(text), ctypes.byref(self._handle))
-        if status:
-            raise _refusal(status)
+        accepted = _calls.accept(bytes(text))
+        if isinstance(accepted, int):
+            raise _refusal(accepted)
+        self._accepted = accepted
 
     def transcoder(self, root: str, source: Wire, target: Union[Wire, Query]) -> Transcoder:
         """What transcodes bodies of one root.
@@ -195,10 +172,7 @@ class Table:
 
     def close(self) -> None:
         """Frees the table. A second call does nothing."""
-        with self._lock:
-            if self._handle.pointer:
-                _LIBRARY.smithy_transcode_free(self._handle)
-                self._handle.pointer = None
+        self._accepted.close()
 
     def __enter__(self) -> Table:
         return self
@@ -206,44 +180,27 @@ class Table:
     def __exit__(self, *_: object) -> None:
         self.close()
 
-    def __del__(self) -> None:
-        if getattr(self, "_handle", None) is not None and self._handle.pointer:
-            self.close()
-
 
 class Transcoder:
     """Transcodes bodies of one root from one wire to another."""
 
     def __init__(self, table: Table, root: str, source: Wire, target: Union[Wire, Query]):
         """As `Table.transcoder`."""
-        self._table = table
-        name = root.encode()
-        form = isinstance(target, Query)
-        action, version = (target.action.encode(), target.version.encode()) if form else (b"", b"")
-        self._asked = (name, len(name), source.number, _QUERY if form else target.number, action, len(action), version, len(version))
-        self._room = ctypes.create_string_buffer(4096)
-        self._len = ctypes.c_size_t()
-        self._len_at = ctypes.byref(self._len)
-        self._back = ctypes.byref(table._handle)
+        if isinstance(target, Query):
+            asked = _QUERY, target.action.encode(), target.version.encode()
+        else:
+            asked = target.number, b"", b""
+        self._task = table._accepted.task(root.encode(), source.number, *asked)
 
     def __call__(self, body: bytes) -> bytes:
         """The canonical body, in the wanted wire, of the value that a body spells. It raises a `Refused` where there is none.
 
         body: the whole body.
         """
-        table, count = self._table, self._len
-        with table._lock:
-            handle = table._handle
-            if not handle.pointer:
-                raise ValueError("the table is closed")
-            while True:
-                room = self._room
-                status = _LIBRARY.smithy_transcode_body(handle, self._back, *self._asked, body, len(body), room, len(room), self._len_at)
-                if status == 0:
-                    return ctypes.string_at(room, count.value)
-                if status != _NO_ROOM:
-                    raise _refusal(status)
-                self._room = ctypes.create_string_buffer(2 * count.value)
+        answer = self._task.one(body)
+        if isinstance(answer, int):
+            raise _refusal(answer)
+        return answer
 
     def each(self, bodies: Iterable[bytes]) -> list[Union[bytes, Refused]]:
         """What each of several bodies becomes, in order: its body in the wanted wire, or why there is none.
@@ -252,40 +209,11 @@ class Transcoder:
         """
         answers: list[Union[bytes, Refused]] = []
         waiting = iter(bodies)
-        while True:
-            some = list(itertools.islice(waiting, 512))
-            if not some:
-                return answers
+        while some := list(itertools.islice(waiting, 512)):
             while some:
-                taken = self._some(some)
-                answers += taken
+                taken = self._task.many(some)
+                if isinstance(taken, int):
+                    raise _refusal(taken)
+                answers += [_refusal(it) if isinstance(it, int) else it for it in taken]
                 some = some[len(taken):]
-
-    def _some(self, bodies: list[bytes]) -> list[Union[bytes, Refused]]:
-        """The answers to the first of these bodies, as many as there is room for."""
-        table, count = self._table, len(bodies)
-        whole = b"".join(bodies)
-        ends = (ctypes.c_size_t * count)(*itertools.accumulate(map(len, bodies)))
-        out_ends, statuses, done = (ctypes.c_size_t * count)(), (ctypes.c_uint8 * count)(), ctypes.c_size_t()
-        with table._lock:
-            handle = table._handle
-            if not handle.pointer:
-                raise ValueError("the table is closed")
-            if len(self._room) < len(whole):
-                self._room = ctypes.create_string_buffer(len(whole))
-            while True:
-                room = self._room
-                status = _LIBRARY.smithy_transcode_bodies(handle, self._back, *self._asked, ends, count, whole, len(whole), room, len(room),
-                                                          out_ends, count, statuses, count, ctypes.byref(done))
-                if status not in (0, _NO_ROOM):
-                    raise _refusal(status)
-                if done.value:
-                    break
-                self._room = ctypes.create_string_buffer(2 * len(room) + len(whole))
-            last = out_ends[done.value - 1]
-            written = ctypes.string_at(room, last)
-        places = [0, *out_ends[:done.value]]
-        told = statuses[:done.value]
-        if 8 in told:
-            raise MemoryError
-        return [_refusal(status) if status else written[places[n]:places[n + 1]] for n, status in enumerate(told)]
+        return answers
