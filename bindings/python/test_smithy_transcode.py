@@ -1,4 +1,4 @@
-"""Calls each part of smithy_transcode.py: `python3 -m unittest` in this folder."""
+"""Calls each part of the package smithy_transcode: `python3 -m unittest` in this folder."""
 
 import threading
 import unittest
