@@ -44,15 +44,15 @@ module _ (c : Lines) (old new : Environment) where
   out_counts (Ok false) after = let lines = after.2.2.2 in lines.2.2.3
   out_counts (Ok true) after = let lines = after.2.2.2 in lines.2.2.3
   out_counts (Err faults.ReadFailed) after = let lines = after.2.2.2 in lines.2.1.4.3
-  out_counts (Err faults.WriteFailed) after = let lines = after.2.2.2 in lines.2.1
-  out_counts (Err faults.NoMemory) after = let lines = after.2.2.2 in lines.2.1
+  out_counts (Err faults.WriteFailed) after = let lines = after.2.2.2 in lines.2.1.2.0
+  out_counts (Err faults.NoMemory) after = let lines = after.2.2.2 in lines.2.1.2.4.3
 
-  says_of_lines : (result : Result Bool StreamFault) → AfterLines c old new result → Says c old new (status_of_lines result)
-  says_of_lines (Ok false) after = after
-  says_of_lines (Ok true) after = after
-  says_of_lines (Err faults.ReadFailed) after = inr after
-  says_of_lines (Err faults.WriteFailed) after = after
-  says_of_lines (Err faults.NoMemory) after = inr after
+  says_of_lines : (result : Result Bool StreamFault) → MetNoFault (old.files c.table_path) (new.files c.table_path) → AfterLines c old new result → Says c old new (status_of_lines result)
+  says_of_lines (Ok false) well after = after
+  says_of_lines (Ok true) well after = after
+  says_of_lines (Err faults.ReadFailed) well after = inr (well, after)
+  says_of_lines (Err faults.WriteFailed) well after = after
+  says_of_lines (Err faults.NoMemory) well after = inr after
 
   input_is_well : (result : Result Bool StreamFault) → InputCounts result old.input new.input → status_of_lines result ≢ ReadFailed → MetNoFault old.input new.input
   input_is_well (Ok false) well other = well
@@ -79,7 +79,7 @@ module _ (c : Lines) (old new : Environment) (text : List ℕ) (table : Table) (
   complete_of LinesRefused says = inr (inl refl)
   complete_of OutOfMemory says = inr (inr refl)
   complete_of ReadFailed (inl before) = absurd (o.file.well (has_failed (old.files c.table_path) (new.files c.table_path) before.1))
-  complete_of ReadFailed (inr after) = absurd (o.input_is_well (has_failed old.input new.input (input_counts c old new (Err faults.ReadFailed) after)))
+  complete_of ReadFailed (inr (well, after)) = absurd (o.input_is_well (has_failed old.input new.input (input_counts c old new (Err faults.ReadFailed) after)))
   complete_of WriteFailed after = absurd (o.out_is_well (has_failed old.out new.out (out_counts c old new (Err faults.WriteFailed) after)))
   complete_of (TableRefused fault) before = absurd (holds (TableRefused fault) before.1)
   complete_of NoSuchShape before = absurd (holds NoSuchShape before.1)
@@ -95,7 +95,7 @@ steady_of c old new file input out status says = (
 ) where
   read_fails_not : Says c old new ReadFailed → ⊥
   read_fails_not (inl before) = steady_meets_none (old.files c.table_path) (new.files c.table_path) file before.1
-  read_fails_not (inr after) = steady_meets_none old.input new.input input (input_counts c old new (Err faults.ReadFailed) after)
+  read_fails_not (inr (well, after)) = steady_meets_none old.input new.input input (input_counts c old new (Err faults.ReadFailed) after)
 
 -- ---- the answer
 
@@ -127,6 +127,33 @@ refusal_tells_nothing root_name old new Differs why tells = why
 refusal_tells_nothing root_name old new LinesRefused why tells = why
 refusal_tells_nothing root_name old new _ why tells = cc
 
+-- what becomes of the output by the result: it holds nothing back, or it wasn't used; after its own fault or out of memory nothing is said
+abbrev pub PassesOn : Result Bool StreamFault → Environment → Environment → Type 0
+PassesOn (Ok refused) old new = new.out_holds_back ≡ false
+PassesOn (Err faults.ReadFailed) old new = (new.out_holds_back ≡ false) ⊎ ((new.out ≡ old.out) × (new.out_holds_back ≡ old.out_holds_back))
+PassesOn (Err faults.WriteFailed) old new = Unit {0}
+PassesOn (Err faults.NoMemory) old new = Unit {0}
+
+module _ (old new : Environment) where
+  all_passed_on : (result : Result Bool StreamFault) → PassesOn result old new → tells_output (status_of_lines result) ≡ true → new.out_holds_back ≡ false
+  all_passed_on (Ok refused) passed tells = passed
+  all_passed_on (Err faults.ReadFailed) passed tells = absurd (let e : false ≡ true = tells in cc)
+  all_passed_on (Err faults.WriteFailed) passed tells = absurd (let e : false ≡ true = tells in cc)
+  all_passed_on (Err faults.NoMemory) passed tells = absurd (let e : false ≡ true = tells in cc)
+
+  some_passed_on : (result : Result Bool StreamFault) → PassesOn result old new → status_of_lines result ≡ ReadFailed
+      → (new.out_holds_back ≡ false) ⊎ ((new.out ≡ old.out) × (new.out_holds_back ≡ old.out_holds_back))
+  some_passed_on (Ok refused) passed is = inl passed
+  some_passed_on (Err faults.ReadFailed) passed is = passed
+  some_passed_on (Err faults.WriteFailed) passed is = absurd (let e : WriteFailed ≡ ReadFailed = is in cc)
+  some_passed_on (Err faults.NoMemory) passed is = absurd (let e : OutOfMemory ≡ ReadFailed = is in cc)
+
+-- a sink that wasn't used tells what it did before
+pub unused : {K : Type 0} (told : K → Shown) (holds_back : K → Bool) (old new : K) → (holds_back new ≡ false) ⊎ (new ≡ old)
+    → (holds_back new ≡ false) ⊎ ((told new ≡ told old) × (holds_back new ≡ holds_back old))
+unused told holds_back old new (inl passed) = inl passed
+unused told holds_back old new (inr same) = inr (ap told same, ap holds_back same)
+
 -- the table or the root is refused
 pub nothing_answered : (c : Lines) (old new : Environment) → Kept old new → BeforeLines old new → (status : Status)
     → RefusesTableChecks c.root_name (old.files c.table_path) (new.files c.table_path) status
@@ -141,6 +168,7 @@ nothing_answered c old new kept before status why table_is_well = record {
   complete = λ text table root o. complete_of c old new text table root o status says;
   steady_never_fails = λ file input out. steady_of c old new file input out status says;
   nothing_is_held_back = λ tells. absurd (refusal_tells_nothing c.root_name (old.files c.table_path) (new.files c.table_path) status why tells);
+  answers_are_passed_on = λ is. inr (before.1, before.2);
 } where
   says : Says c old new status
   says = refusal_says c old new before status why
@@ -149,7 +177,7 @@ nothing_answered c old new kept before status why table_is_well = record {
 pub lines_answered : (c : Lines) (old new : Environment) → Kept old new → (table : Table) (root : ℕ) → PassesTableChecks c.root_name (old.files c.table_path) table root
     → MetNoFault (old.files c.table_path) (new.files c.table_path) → (result : Result Bool StreamFault)
     → AnswersEach (line_answers c table root) result old.input new.input old.out new.out
-    → (tells_output (status_of_lines result) ≡ true → new.out_holds_back ≡ false) → LinesAnswer c old new (status_of_lines result)
+    → PassesOn result old new → LinesAnswer c old new (status_of_lines result)
 lines_answered c old new kept table root passed table_is_well result answered finished = record {
   says = says;
   table_met_no_fault = λ other. table_is_well;
@@ -159,13 +187,14 @@ lines_answered c old new kept table root passed table_is_well result answered fi
   missing_is_a_fault = λ gone. absurd (passed.loaded.there gone);
   complete = λ text table root o. complete_of c old new text table root o (status_of_lines result) says;
   steady_never_fails = λ file input out. steady_of c old new file input out (status_of_lines result) says;
-  nothing_is_held_back = finished;
+  nothing_is_held_back = all_passed_on old new result finished;
+  answers_are_passed_on = some_passed_on old new result finished;
 } where
   after : AfterLines c old new result
   after = (passed.text, passed.loaded, (table, passed.accepted_as, (root, passed.is_root, answered)))
 
   says : Says c old new (status_of_lines result)
-  says = says_of_lines c old new result after
+  says = says_of_lines c old new result table_is_well after
 
 pub lines_is_no_usage : (c : Lines) (old new : Environment) (status : Status) → LinesAnswer c old new status → status ≢ Usage
 lines_is_no_usage c old new status answer = λ e. absurd (subst (Says c old new) e answer.says).1

@@ -2,13 +2,14 @@
 use Rattle.std.proofs.Common.{◌≡◌, ◌≢◌, ◌≤◌, ◌+◌, ◌⊎◌, inl, inr, ℕ, List, length, Bool, true, false, refl, subst, ap, arith}
 use Rattle.smithy_declarations.specs.Table.{Table}
 use Rattle.smithy_lines.specs.Lines.{lines_of}
-use Rattle.smithy_lines.specs.Answered.{TookAll, TookFront}
+use Rattle.smithy_lines.specs.Answered.{TookAll, EndsIn}
+use Rattle.smithy_lines.specs.declared.answer.AnswerFault.TheVariants as faults
 use Rattle.smithy_commands.specs.declared.status.Status.{Status}
 use Rattle.smithy_commands.specs.declared.status.Status.TheVariants.{Done, Usage, ReadFailed, WriteFailed, OutOfMemory, TableRefused, NoSuchShape, NotAStructure, TooLong, Differs, LinesRefused}
 use Rattle.smithy_commands.specs.Status.{tells_output}
 use Rattle.smithy_commands.specs.Checks.{longest_input, Sources, AfterInput, RefusesTable, RefusesChecks, PassesChecks}
-use Rattle.smithy_commands.specs.Replay.{Replay, sources_of, line_answers, AfterReplay, Says, AllIsInOrder, ReplayAnswer}
-use Rattle.smithy_outside.specs.Outside.{Shown, Environment, missing, MetOneFault, MetNoFault, Gave}
+use Rattle.smithy_commands.specs.Replay.{Replay, sources_of, line_answers, AfterReplay, IsUnused, Says, AllIsInOrder, ReplayAnswer}
+use Rattle.smithy_outside.specs.Outside.{Shown, Environment, missing, MetNoFault, Gave}
 use Rattle.smithy_outside.proofs.Faults.{has_failed, steady_meets_none}
 use Rattle.smithy_commands.proofs.Refusals.{past_limit, table_holds}
 
@@ -24,7 +25,7 @@ module _ (c : Replay) (old new : Environment) (text input : List ℕ) (table : T
   complete_of OutOfMemory says = inr (inr refl)
   complete_of ReadFailed (inl first) = absurd (o.file.well (has_failed (old.files c.table_path) (new.files c.table_path) first.1))
   complete_of ReadFailed (inr after) = absurd (o.source.well (has_failed old.input new.input after.2.2.2.1))
-  complete_of WriteFailed says = absurd (o.out_is_well (has_failed old.out new.out says.0))
+  complete_of WriteFailed says = let lines = says.2.2.2 in absurd (o.out_is_well (has_failed old.out new.out lines.2.0))
   complete_of (TableRefused fault) says = absurd (holds (TableRefused fault) says.1)
   complete_of NoSuchShape says = absurd (holds NoSuchShape says.1)
   complete_of NotAStructure says = absurd (holds NotAStructure says.1)
@@ -38,7 +39,7 @@ steady_of : (c : Replay) (old new : Environment) → (old.files c.table_path).is
     → (status : Status) → Says c old new status → (status ≢ ReadFailed) × (status ≢ WriteFailed)
 steady_of c old new file input out status says = (
   λ e. read_fails_not (subst (Says c old new) e says),
-  λ e. let wrote = subst (Says c old new) e says in steady_meets_none old.out new.out out wrote.0,
+  λ e. let wrote = subst (Says c old new) e says in let lines = wrote.2.2.2 in steady_meets_none old.out new.out out lines.2.0,
 ) where
   read_fails_not : Says c old new ReadFailed → ⊥
   read_fails_not (inl first) = steady_meets_none (old.files c.table_path) (new.files c.table_path) file first.1
@@ -55,7 +56,7 @@ Kept old new = (path : List ℕ) → (new.files path).content ≡ (old.files pat
 -- ---- the checks refuse
 
 -- a refusal says why there is no answer to a line, and is neither an answer nor a fault of the output
-refusal_says : (c : Replay) (old new : Environment) → new.out ≡ old.out → (status : Status) → RefusesChecks c.root_name (sources_of c old) (sources_of c new) status
+refusal_says : (c : Replay) (old new : Environment) → IsUnused old new → (status : Status) → RefusesChecks c.root_name (sources_of c old) (sources_of c new) status
     → Says c old new status
 refusal_says c old new out Done why = absurd why.1
 refusal_says c old new out LinesRefused why = absurd why.1
@@ -99,7 +100,7 @@ nothing_replayed c old new no_further kept out held status why table_is_well inp
   out_is_untouched = λ other written memory. (out, held);
 } where
   says : Says c old new status
-  says = refusal_says c old new out status why
+  says = refusal_says c old new (out, held) status why
 
 -- ---- the lines are answered
 
@@ -152,8 +153,8 @@ module _ (c : Replay) (old new : Environment) (no_further : NoFurther old new) (
     says = says_of_lines c old new refused (after _ (took.0, took.1, took.2))
 
   -- the output failed
-  pub replay_cut_short : MetOneFault old.out new.out → TookFront (line_answers c table root) (lines_of input) old.out new.out → ReplayAnswer c old new WriteFailed
-  replay_cut_short fault took = record {
+  pub replay_cut_short : EndsIn (line_answers c table root) (lines_of input) faults.WriteFailed old.out new.out → ReplayAnswer c old new WriteFailed
+  replay_cut_short ends = record {
     says = says;
     reads_no_further = no_further;
     table_met_no_fault = λ other. table_is_well;
@@ -167,17 +168,16 @@ module _ (c : Replay) (old new : Environment) (no_further : NoFurther old new) (
     out_is_untouched = λ other written memory. absurd (written refl);
   } where
     says : Says c old new WriteFailed
-    says = (fault, after _ took)
+    says = after _ ends
 
   -- memory ran out, before any line or after some
-  pub replay_without_memory : MetNoFault old.out new.out → (new.out ≡ old.out) ⊎ TookFront (line_answers c table root) (lines_of input) old.out new.out
-      → ReplayAnswer c old new OutOfMemory
-  replay_without_memory well took = record {
-    says = says took;
+  pub replay_without_memory : IsUnused old new ⊎ EndsIn (line_answers c table root) (lines_of input) faults.NoMemory old.out new.out → ReplayAnswer c old new OutOfMemory
+  replay_without_memory ends = record {
+    says = says ends;
     reads_no_further = no_further;
     table_met_no_fault = λ other. table_is_well;
     input_met_no_fault = λ other. input_is_well;
-    out_met_no_fault = λ other. well;
+    out_met_no_fault = λ other. well ends;
     files_are_kept = kept;
     missing_is_a_fault = λ gone. inr refl;
     complete = λ text input table root o. inr (inr refl);
@@ -185,9 +185,13 @@ module _ (c : Replay) (old new : Environment) (no_further : NoFurther old new) (
     nothing_is_held_back = λ tells. absurd (let e : false ≡ true = tells in cc);
     out_is_untouched = λ other written memory. absurd (memory refl);
   } where
-    says : (new.out ≡ old.out) ⊎ TookFront (line_answers c table root) (lines_of input) old.out new.out → Says c old new OutOfMemory
-    says (inl out) = inl out
-    says (inr front) = inr (after _ front)
+    says : IsUnused old new ⊎ EndsIn (line_answers c table root) (lines_of input) faults.NoMemory old.out new.out → Says c old new OutOfMemory
+    says (inl unused) = inl unused
+    says (inr some) = inr (after _ some)
+
+    well : IsUnused old new ⊎ EndsIn (line_answers c table root) (lines_of input) faults.NoMemory old.out new.out → MetNoFault old.out new.out
+    well (inl unused) = (ap (λ (s : Shown). s.faults) unused.0, ap (λ (s : Shown). s.is_steady) unused.0)
+    well (inr some) = some.4.3
 
 pub replay_is_no_usage : (c : Replay) (old new : Environment) (status : Status) → ReplayAnswer c old new status → status ≢ Usage
 replay_is_no_usage c old new status answer = λ e. absurd (subst (Says c old new) e answer.says).1

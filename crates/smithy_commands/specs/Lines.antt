@@ -63,7 +63,9 @@ abbrev pub Says : Lines → Environment → Environment → Status → Type 0
 Says c old new Done = AfterLines c old new (Ok false)
 Says c old new LinesRefused = AfterLines c old new (Ok true)
 Says c old new WriteFailed = AfterLines c old new (Err faults.WriteFailed)
-Says c old new ReadFailed = RefusesBefore c old new ReadFailed ⊎ AfterLines c old new (Err faults.ReadFailed)
+Says c old new ReadFailed =
+    RefusesBefore c old new ReadFailed
+    ⊎ (MetNoFault (old.files c.table_path) (new.files c.table_path) × AfterLines c old new (Err faults.ReadFailed))
 Says c old new OutOfMemory = RefusesBefore c old new OutOfMemory ⊎ AfterLines c old new (Err faults.NoMemory)
 Says c old new status = RefusesBefore c old new status
 
@@ -93,3 +95,6 @@ pub record LinesAnswer (c : Lines) (old new : Environment) (status : Status) : T
   pub steady_never_fails : (old.files c.table_path).is_steady ≡ true → old.input.is_steady ≡ true
       → old.out.is_steady ≡ true → (status ≢ ReadFailed) × (status ≢ WriteFailed)
   pub nothing_is_held_back : tells_output status ≡ true → new.out_holds_back ≡ false
+  -- nor where a read failed, unless the output wasn't used
+  pub answers_are_passed_on : status ≡ ReadFailed
+      → (new.out_holds_back ≡ false) ⊎ ((new.out ≡ old.out) × (new.out_holds_back ≡ old.out_holds_back))

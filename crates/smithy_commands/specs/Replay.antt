@@ -4,14 +4,16 @@ use Rattle.smithy_declarations.specs.Table.{Table}
 use Rattle.smithy_declarations.specs.Acceptance.{accepted, table_of}
 use Rattle.smithy_transcode.specs.Wires.{json, query}
 use Rattle.smithy_lines.specs.Lines.{lines_of}
-use Rattle.smithy_lines.specs.Answered.{Answers, TookFront}
+use Rattle.smithy_lines.specs.Answered.{Answers, EndsIn}
+use Rattle.smithy_lines.specs.declared.answer.AnswerFault.{AnswerFault}
+use Rattle.smithy_lines.specs.declared.answer.AnswerFault.TheVariants as faults
 use Rattle.smithy_replay.specs.Replayed.{AnswersLine, Replayed}
 use Rattle.smithy_commands.specs.declared.commands.replay.Replay as kept
 use Rattle.smithy_commands.specs.declared.status.Status.{Status}
 use Rattle.smithy_commands.specs.declared.status.Status.TheVariants.{Done, ReadFailed, WriteFailed, OutOfMemory, LinesRefused}
 use Rattle.smithy_commands.specs.Status.{tells_output}
 use Rattle.smithy_commands.specs.Checks.{longest_table, longest_input, Sources, IsInOrder, IsRoot, AfterInput, RefusesChecks}
-use Rattle.smithy_outside.specs.Outside.{Environment, missing, HasFailed, MetOneFault, MetNoFault, Gave, Took}
+use Rattle.smithy_outside.specs.Outside.{Environment, missing, HasFailed, MetNoFault, Gave, Took}
 
 -- ---- the words
 
@@ -49,18 +51,22 @@ AfterReplay c old new refused =
     AfterInput c.root_name (sources_of c old) (sources_of c new)
     (λ table root input. (text : List ℕ) × Replayed table root c.action c.version input text refused × Took text old.out new.out)
 
--- the output took a prefix of the answers to the first lines of the input
-abbrev pub AfterFront : Replay → Environment → Environment → Type 0
-AfterFront c old new =
+-- the answers to the lines of the input end with this fault, after some of them
+abbrev pub AfterFault : Replay → Environment → Environment → AnswerFault → Type 0
+AfterFault c old new fault =
     AfterInput c.root_name (sources_of c old) (sources_of c new)
-    (λ table root input. TookFront (line_answers c table root) (lines_of input) old.out new.out)
+    (λ table root input. EndsIn (line_answers c table root) (lines_of input) fault old.out new.out)
+
+-- nothing was written to the output
+abbrev pub IsUnused : Environment → Environment → Type 0
+IsUnused old new = (new.out ≡ old.out) × (new.out_holds_back ≡ old.out_holds_back)
 
 -- what a status says
 abbrev pub Says : Replay → Environment → Environment → Status → Type 0
 Says c old new Done = AfterReplay c old new false
 Says c old new LinesRefused = AfterReplay c old new true
-Says c old new WriteFailed = MetOneFault old.out new.out × AfterFront c old new
-Says c old new OutOfMemory = (new.out ≡ old.out) ⊎ AfterFront c old new
+Says c old new WriteFailed = AfterFault c old new faults.WriteFailed
+Says c old new OutOfMemory = IsUnused old new ⊎ AfterFault c old new faults.NoMemory
 Says c old new status = RefusesChecks c.root_name (sources_of c old) (sources_of c new) status
 
 -- all is told and in order, and no count rose
@@ -92,5 +98,4 @@ pub record ReplayAnswer (c : Replay) (old new : Environment) (status : Status) :
       → old.out.is_steady ≡ true → (status ≢ ReadFailed) × (status ≢ WriteFailed)
   pub nothing_is_held_back : tells_output status ≡ true → new.out_holds_back ≡ false
   -- what the output tells and counts stays, where the lines aren't answered
-  pub out_is_untouched : tells_output status ≡ false → status ≢ WriteFailed → status ≢ OutOfMemory
-      → (new.out ≡ old.out) × (new.out_holds_back ≡ old.out_holds_back)
+  pub out_is_untouched : tells_output status ≡ false → status ≢ WriteFailed → status ≢ OutOfMemory → IsUnused old new

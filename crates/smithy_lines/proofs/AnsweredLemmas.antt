@@ -10,7 +10,7 @@ use Rattle.smithy_lines.specs.declared.answer.AnswerFault.TheVariants as faults
 use Rattle.smithy_lines.specs.Lines.{line_feed, HasNoFeed, lines_of}
 use Rattle.smithy_lines.specs.Answered.{Answers, Answered, TookAll, TookFront, EndsIn}
 use Rattle.smithy_lines.specs.Private.Batches.{AddsAnswer}
-use Rattle.smithy_lines.specs.Private.SoFar.{IsSoFar, IsRest, ServesFor}
+use Rattle.smithy_lines.specs.Private.SoFar.{IsSoFar, IsRest, ServesFor, EndsEarly}
 use Rattle.smithy_lines.proofs.LineLemmas.{first_line, last_line}
 
 or_false : (b : Bool) → (b || false) ≡ b
@@ -26,38 +26,47 @@ behind answer more added = append_assoc answer (line_feed ∷ more) added
 
 -- one more line, behind all others
 answered_more : (answers : Answers) (n : ℕ) (lines : List (List ℕ)) (text : List ℕ) (refused : Bool) (line answer : List ℕ) (is : Bool)
-    → Answered answers n lines text refused → answers (n + length lines) line answer is
+    → Answered answers n lines text refused → answers (n + length lines) line answer is → HasNoFeed answer
     → Answered answers n (lines ++ line ∷ []) (text ++ (answer ++ line_feed ∷ [])) (refused || is)
-answered_more answers n [] text refused line answer is so says = (
+answered_more answers n [] text refused line answer is so says none = (
   answer,
   [],
   is,
   false,
   subst (λ k. answers k line answer is) (omega arith) says,
+  none,
   (refl, refl),
   ap (λ t. t ++ (answer ++ line_feed ∷ [])) so.0,
   ap (λ b. b || is) so.1 ∙ sym (or_false is),
 )
-answered_more answers n (l ∷ ls) text refused line answer is (first, more, was, others, said, rest, whole, some) says = (
+answered_more answers n (l ∷ ls) text refused line answer is (first, more, was, others, said, clear, rest, whole, some) says none = (
   first,
   more ++ (answer ++ line_feed ∷ []),
   was,
   others || is,
   said,
-  answered_more answers (suc n) ls more others line answer is rest (subst (λ k. answers k line answer is) (omega arith) says),
+  clear,
+  answered_more answers (suc n) ls more others line answer is rest (subst (λ k. answers k line answer is) (omega arith) says) none,
   ap (λ t. t ++ (answer ++ line_feed ∷ [])) whole ∙ behind first more (answer ++ line_feed ∷ []),
   ap (λ b. b || is) some ∙ or_assoc was others is,
 )
 
 pub so_far_more : (answers : Answers) (done : List (List ℕ)) (line : List ℕ) (old new : Batch) (start now : Shown) → IsSoFar answers done old start now → AddsAnswer answers line old new
     → IsSoFar answers (done ++ line ∷ []) new start now
-so_far_more answers done line old new start now so (answer, is, says, text, count, refused) = record {
+so_far_more answers done line old new start now so (answer, is, says, none, text, count, refused) = record {
   written = so.written;
   answered = subst (λ t. Answered answers 1 (done ++ line ∷ []) t new.refused)
       (append_assoc so.written old.text.items (answer ++ line_feed ∷ []) ∙ ap (λ t. so.written ++ t) (sym (append_assoc old.text.items answer (line_feed ∷ [])) ∙ sym text))
       (subst (Answered answers 1 (done ++ line ∷ []) ((so.written ++ old.text.items) ++ (answer ++ line_feed ∷ []))) (sym refused)
       (answered_more answers 1 done (so.written ++ old.text.items) old.refused line answer is so.answered
-      (subst (λ k. answers k line answer is) (omega (arith, so.counted)) says)));
+      (subst (λ k. answers k line answer is) (omega (arith, so.counted)) says) none));
+  whole = (
+    so.whole.0,
+    so.whole.1 ++ line ∷ [],
+    so.whole.2,
+    ap (λ l. l ++ line ∷ []) so.whole.3 ∙ append_assoc so.whole.0 so.whole.1 (line ∷ []),
+    so.whole.4,
+  );
   counted = omega (arith, count, so.counted, length-append done (line ∷ []));
   took = so.took;
   no_fault = so.no_fault;
@@ -65,7 +74,7 @@ so_far_more answers done line old new start now so (answer, is, says, text, coun
 
 -- an answer by what serves for the line
 pub added_for : (answers : Answers) (line whole : List ℕ) (old new : Batch) → ServesFor answers line whole → AddsAnswer answers line old new → AddsAnswer answers whole old new
-added_for answers line whole old new serves (answer, is, says, text, count, refused) = (answer, is, serves (old.count + 1) answer is says, text, count, refused)
+added_for answers line whole old new serves (answer, is, says, none, text, count, refused) = (answer, is, serves (old.count + 1) answer is says, none, text, count, refused)
 
 -- the answers that waited were taken
 pub so_far_passed : (answers : Answers) (done : List (List ℕ)) (old new : Batch) (start was now : Shown) → IsSoFar answers done old start was
@@ -74,6 +83,7 @@ so_far_passed answers done old new start was now so empty count refused no_fault
   written = so.written ++ old.text.items;
   answered = subst (λ t. Answered answers 1 done t new.refused) (sym (append-nil (so.written ++ old.text.items)) ∙ ap (λ t. (so.written ++ old.text.items) ++ t) (sym empty))
       (subst (Answered answers 1 done (so.written ++ old.text.items)) (sym refused) so.answered);
+  whole = (done, [], new.refused, sym (append-nil done), subst (Answered answers 1 done (so.written ++ old.text.items)) (sym refused) so.answered);
   counted = count ∙ so.counted;
   took = took_more so.written old.text.items start was now so.took took;
   no_fault = no_fault_after start was now so.no_fault no_fault;
@@ -91,8 +101,11 @@ all_taken answers done batch start now so empty = (
 -- memory was wanting behind some lines
 pub ends_for_memory : (answers : Answers) (done : List (List ℕ)) (batch : Batch) (start now : Shown) → IsSoFar answers done batch start now → EndsIn answers done faults.NoMemory start now
 ends_for_memory answers done batch start now so = (
-  so.no_fault,
-  (done, [], so.written ++ batch.text.items, batch.refused, sym (append-nil done), so.answered, (so.written, (batch.text.items, refl), so.took)),
+  so.whole.0,
+  so.whole.1,
+  so.whole.2,
+  so.whole.3,
+  (so.written, so.whole.4, so.took, so.no_fault),
 )
 
 -- the sink failed as the answers that waited were written
@@ -109,7 +122,8 @@ front_before answers lines more all start now is (front, rest, text, refused, cu
 -- whatever lines follow
 pub ends_before : (answers : Answers) (lines more all : List (List ℕ)) (e : AnswerFault) (start now : Shown) → all ≡ lines ++ more → EndsIn answers lines e start now → EndsIn answers all e start now
 ends_before answers lines more all faults.WriteFailed start now is (fault, took) = (fault, front_before answers lines more all start now is took)
-ends_before answers lines more all faults.NoMemory start now is (fault, took) = (fault, front_before answers lines more all start now is took)
+ends_before answers lines more all faults.NoMemory start now is (front, rest, refused, cut, took) =
+    (front, rest ++ more, refused, is ∙ ap (λ l. l ++ more) cut ∙ append_assoc front rest more, took)
 
 one_more : (done : List (List ℕ)) (line : List ℕ) (lines : List (List ℕ)) → done ++ line ∷ lines ≡ (done ++ line ∷ []) ++ lines
 one_more done line lines = sym (append_assoc done (line ∷ []) lines)
@@ -139,7 +153,7 @@ pub rest_begun : (answers : Answers) (bytes : List ℕ) (batch : Batch) (start :
 rest_begun answers bytes batch start empty none well = record {
   done = [];
   cut = λ more. refl;
-  so_far = record { written = []; answered = (empty, well); counted = none; took = took_nothing start; no_fault = (refl, refl) };
+  so_far = record { written = []; answered = (empty, well); whole = ([], [], false, refl, (refl, refl)); counted = none; took = took_nothing start; no_fault = (refl, refl) };
 }
 
 -- more bytes came
@@ -160,14 +174,12 @@ rest_line answers taken left line rest batch new start was now w is none so = re
 }
 
 pub line_ends : (answers : Answers) (taken left line rest : List ℕ) (batch : Batch) (start was now : Shown) (e : AnswerFault) (w : IsRest answers taken left batch start was) → left ≡ line ++ line_feed ∷ rest → HasNoFeed line
-    → EndsIn answers (w.done ++ line ∷ []) e start now → EndsIn answers (lines_of taken) e start now
-line_ends answers taken left line rest batch start was now e w is none ends =
-    ends_before answers (w.done ++ line ∷ []) (lines_of rest) (lines_of taken) e start now (rest_closed taken rest (w.done ++ line ∷ []) (rest_cut taken left line rest w.done w.cut is none)) ends
+    → EndsIn answers (w.done ++ line ∷ []) e start now → EndsEarly answers taken e start now
+line_ends answers taken left line rest batch start was now e w is none ends = (w.done ++ line ∷ [], (λ more. (lines_of (rest ++ more), rest_cut taken left line rest w.done w.cut is none more)), ends)
 
 -- memory was wanting for what was to come next
-pub rest_ends : (answers : Answers) (taken left : List ℕ) (batch : Batch) (start now : Shown) → IsRest answers taken left batch start now → EndsIn answers (lines_of taken) faults.NoMemory start now
-rest_ends answers taken left batch start now w =
-    ends_before answers w.done (lines_of left) (lines_of taken) faults.NoMemory start now (rest_closed taken left w.done w.cut) (ends_for_memory answers w.done batch start now w.so_far)
+pub rest_ends : (answers : Answers) (taken left : List ℕ) (batch : Batch) (start now : Shown) → IsRest answers taken left batch start now → EndsEarly answers taken faults.NoMemory start now
+rest_ends answers taken left batch start now w = (w.done, (λ more. (lines_of (left ++ more), w.cut more)), ends_for_memory answers w.done batch start now w.so_far)
 
 -- the answers that waited were passed on
 pub rest_passed : (answers : Answers) (taken left : List ℕ) (old new : Batch) (start was now : Shown) → IsRest answers taken left old start was
@@ -176,6 +188,11 @@ rest_passed answers taken left old new start was now w empty count refused no_fa
     record { done = w.done; cut = w.cut; so_far = so_far_passed answers w.done old new start was now w.so_far empty count refused no_fault took }
 
 pub rest_sink : (answers : Answers) (taken left : List ℕ) (batch : Batch) (start was now : Shown) → IsRest answers taken left batch start was → MetOneFault was now → TookPrefix batch.text.items was now
-    → EndsIn answers (lines_of taken) faults.WriteFailed start now
+    → EndsEarly answers taken faults.WriteFailed start now
 rest_sink answers taken left batch start was now w fault took =
-    ends_before answers w.done (lines_of left) (lines_of taken) faults.WriteFailed start now (rest_closed taken left w.done w.cut) (ends_for_sink answers w.done batch start was now w.so_far fault took)
+    (w.done, (λ more. (lines_of (left ++ more), w.cut more)), ends_for_sink answers w.done batch start was now w.so_far fault took)
+
+-- no more bytes follow
+pub early_closed : (answers : Answers) (taken : List ℕ) (e : AnswerFault) (start now : Shown) → EndsEarly answers taken e start now → EndsIn answers (lines_of taken) e start now
+early_closed answers taken e start now (lines, begin, ends) =
+    ends_before answers lines (begin []).0 (lines_of taken) e start now (ap lines_of (sym (append-nil taken)) ∙ (begin []).1) ends

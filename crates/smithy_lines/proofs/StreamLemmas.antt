@@ -5,15 +5,16 @@ use Rattle.std.proofs.lemmas.List.{take_all, take-append-le, length-take-le}
 use Rattle.std.proofs.Math.Seq.{take-append-add}
 use Rattle.std.proofs.lemmas.List.Elements.{All-append}
 use Rattle.std.specs.Prelude.{◌==◌, false}
-use Rattle.smithy_outside.specs.Outside.{Shown, Gave, MetNoFault}
+use Rattle.smithy_outside.specs.Outside.{Shown, Gave, MetNoFault, IsAtEnd}
 use Rattle.smithy_outside.proofs.Moved.{gave_more, took_nothing}
 use Rattle.smithy_lines.specs.declared.batch.Batch.{Batch}
 use Rattle.smithy_lines.specs.declared.answer.AnswerFault.{AnswerFault}
 use Rattle.smithy_lines.specs.declared.answer.AnswerFault.TheVariants as faults
+use Rattle.smithy_lines.specs.declared.answer.StreamFault.TheVariants as stream_faults
 use Rattle.smithy_lines.specs.Lines.{line_feed, HasNoFeed, lines_of}
-use Rattle.smithy_lines.specs.Answered.{Answers, TookFront, EndsIn}
-use Rattle.smithy_lines.specs.Sources.{AnswersUpTo, stream_fault, TookEnded, EndsEachIn}
-use Rattle.smithy_lines.specs.Private.SoFar.{IsHeld, ServesFor, HasBegun}
+use Rattle.smithy_lines.specs.Answered.{Answers, EndsIn}
+use Rattle.smithy_lines.specs.Sources.{AnswersUpTo, stream_fault, TookEnded, EndsAfter, EndsEachIn}
+use Rattle.smithy_lines.specs.Private.SoFar.{IsHeld, ServesFor, HasBegun, EndsEarly}
 use Rattle.smithy_lines.proofs.AnsweredLemmas.{rest_more, rest_ends, rest_begun, all_taken}
 
 -- a front of the line is held, or the whole line
@@ -109,7 +110,7 @@ module _ (answers : Answers) (longest : ℕ) where
   }
 
   -- memory was wanting before the piece was answered
-  pub piece_ends : (taken held piece : List ℕ) (batch : Batch) (start now : Shown) → HasBegun answers longest taken held batch start now → EndsIn answers (lines_of (taken ++ piece)) faults.NoMemory start now
+  pub piece_ends : (taken held piece : List ℕ) (batch : Batch) (start now : Shown) → HasBegun answers longest taken held batch start now → EndsEarly answers (taken ++ piece) faults.NoMemory start now
   piece_ends taken held piece batch start now b = rest_ends answers (taken ++ piece) (b.line ++ piece) batch start now (rest_more answers taken b.line piece batch start now b.is_rest)
 
 -- the source failed, and all lines that had ended were answered
@@ -143,10 +144,30 @@ stream_begun longest answers refuses held batch start is empty none well = recor
 }
 
 -- the source gave nothing yet
-pub none_taken : (answers : Answers) (start : Shown) → TookFront answers (lines_of []) start start
-none_taken answers start = ([], [], [], false, refl, (refl, refl), ([], ([], refl), took_nothing start))
+pub none_taken : (answers : Answers) (source start : Shown) → EndsAfter answers [] source faults.NoMemory start start
+none_taken answers source start = ([], inr (λ more. (lines_of more, refl)), ([], [], false, refl, ([], (refl, refl), took_nothing start, (refl, refl))))
 
 -- the source met no fault
-pub ends_each : (answers : Answers) (taken : List ℕ) (e : AnswerFault) (old new was now : Shown) → MetNoFault old new → EndsIn answers (lines_of taken) e was now → EndsEachIn answers taken (stream_fault e) old new was now
-ends_each answers taken faults.WriteFailed old new was now none ends = (none, ends.0, ends.1)
-ends_each answers taken faults.NoMemory old new was now none ends = (none, ends.0, ends.1)
+pub ends_each : (answers : Answers) (taken : List ℕ) (e : AnswerFault) (old new was now : Shown) → MetNoFault old new → EndsAfter answers taken new e was now → EndsEachIn answers taken (stream_fault e) old new was now
+ends_each answers taken faults.WriteFailed old new was now none ends = (none, ends)
+ends_each answers taken faults.NoMemory old new was now none ends = (none, ends)
+
+-- it may give more
+pub ends_before_end : (answers : Answers) (taken : List ℕ) (e : AnswerFault) (old new was now : Shown) → MetNoFault old new → EndsEarly answers taken e was now → EndsEachIn answers taken (stream_fault e) old new was now
+ends_before_end answers taken e old new was now none (lines, begin, ends) = ends_each answers taken e old new was now none (lines, inr begin, ends)
+
+-- it is at its end
+pub ends_at_end : (answers : Answers) (taken : List ℕ) (e : AnswerFault) (old new was now : Shown) → MetNoFault old new → IsAtEnd new → EndsIn answers (lines_of taken) e was now
+    → EndsEachIn answers taken (stream_fault e) old new was now
+ends_at_end answers taken e old new was now none end ends = ends_each answers taken e old new was now none (lines_of taken, inl (end, refl), ends)
+
+-- these faults aren't the source's
+pub no_read_fault : (e : AnswerFault) → stream_fault e ≡ stream_faults.ReadFailed → ⊥
+no_read_fault faults.WriteFailed is = cc
+no_read_fault faults.NoMemory is = cc
+
+-- a sink that held nothing back, or that was never used, is so still where it wasn't used since
+pub passed_since : {K : Type 0} (P : K → Type 0) (first was now : K) → P now ⊎ (now ≡ was) → P was ⊎ (was ≡ first) → P now ⊎ (now ≡ first)
+passed_since P first was now (inl passed) before = inl passed
+passed_since P first was now (inr same) (inl passed) = inl (subst P (sym same) passed)
+passed_since P first was now (inr same) (inr unused) = inr (same ∙ unused)

@@ -6,7 +6,7 @@ use Rattle.smithy_lines.specs.declared.answer.StreamFault.TheVariants as faults
 use Rattle.smithy_lines.specs.declared.answer.AnswerFault.{AnswerFault}
 use Rattle.smithy_lines.specs.declared.answer.AnswerFault.TheVariants as answer_faults
 use Rattle.smithy_lines.specs.Lines.{HasNoFeed, lines_of}
-use Rattle.smithy_lines.specs.Answered.{Answers, TookAll, TookFront}
+use Rattle.smithy_lines.specs.Answered.{Answers, TookAll, EndsIn}
 
 -- A line of at most this many bytes has its answer. A longer line is refused, and the answer that refuses it is chosen by its number.
 abbrev pub AnswersUpTo : ℕ → Answers → (ℕ → List ℕ → Type 0) → Answers
@@ -27,13 +27,23 @@ abbrev pub TookEnded : Answers → (taken : List ℕ) → Shown → Shown → Ty
 TookEnded answers taken old new =
     (ended : List (List ℕ)) × (begun : List ℕ) × (refused : Bool) × HaveEnded taken ended begun × TookAll answers ended refused old new
 
+-- whatever comes after these bytes, their first lines are these
+abbrev pub BeginWith : (taken : List ℕ) → (lines : List (List ℕ)) → Type 0
+BeginWith taken lines = (more : List ℕ) → (rest : List (List ℕ)) × (lines_of (taken ++ more) ≡ lines ++ rest)
+
+-- The answers to the first lines of a source that gave these bytes end with a fault of the sink, or since memory ran out. At the end of
+-- the source its lines are those of the bytes. Before it only lines that have ended count: they come first, whatever comes next.
+abbrev pub EndsAfter : Answers → (taken : List ℕ) → (source : Shown) → AnswerFault → (was now : Shown) → Type 0
+EndsAfter answers taken source e was now =
+    (lines : List (List ℕ)) × ((IsAtEnd source × (lines ≡ lines_of taken)) ⊎ BeginWith taken lines) × EndsIn answers lines e was now
+
 -- The answers to the lines of these bytes of a source end with a fault after some of them. The source is `old` and then `new`, and the
 -- sink `was` and then `now`. Each of them met one fault where the fault is its own, and else none. Where the source failed, all lines
 -- that had ended were answered.
 abbrev pub EndsEachIn : Answers → (taken : List ℕ) → StreamFault → (old new was now : Shown) → Type 0
 EndsEachIn answers taken faults.ReadFailed old new was now = MetOneFault old new × TookEnded answers taken was now
-EndsEachIn answers taken faults.WriteFailed old new was now = MetNoFault old new × MetOneFault was now × TookFront answers (lines_of taken) was now
-EndsEachIn answers taken faults.NoMemory old new was now = MetNoFault old new × MetNoFault was now × TookFront answers (lines_of taken) was now
+EndsEachIn answers taken faults.WriteFailed old new was now = MetNoFault old new × EndsAfter answers taken new answer_faults.WriteFailed was now
+EndsEachIn answers taken faults.NoMemory old new was now = MetNoFault old new × EndsAfter answers taken new answer_faults.NoMemory was now
 
 -- The lines of what a source gave were answered to its end, and the result says whether one of them is refused; or the answers end with
 -- a fault.

@@ -1,5 +1,6 @@
 //! What answers a line, and why lines stay without an answer.
 ghost use Rattle.std.specs.Prelude.{◌≡◌, ◌++◌, ℕ, List, Bool, IfOk, OnOk};
+ghost use Rattle.smithy_lines.specs.Lines.{HasNoFeed};
 ghost use Rattle.smithy_lines.specs.declared.answer.AnswerFault.TheVariants as answer_faults;
 ghost use Rattle.smithy_lines.specs.declared.answer.StreamFault.TheVariants as stream_faults;
 
@@ -7,7 +8,7 @@ use smithy_outside::Failed;
 use std::alloc::{AllocError, Global};
 use thiserror::Error;
 
-/// What answers lines. A line is known by its bytes and its number, and the first line has the number 1.
+/// What answers lines. A line is known by its bytes and its number, and the first line has the number 1. No answer has a line feed.
 pub trait AnswerLine {
     // What the answer to a line may be, without the line feed after it, and whether it refuses the line.
     ghost answers: { Self → ℕ → List ℕ → List ℕ → Bool → Type 0 };
@@ -23,11 +24,11 @@ pub trait AnswerLine {
         line: &[u8],
         text: &mut Vec<u8>,
     ) -> Result<bool, AllocError>
-        ensures { IfOk result (λ refused. (answer : List ℕ) × (text.new.items ≡ text.old.items ++ answer) × answers self.now number line.now answer refused) };
+        ensures { IfOk result (λ refused. (answer : List ℕ) × (text.new.items ≡ text.old.items ++ answer) × HasNoFeed answer × answers self.now number line.now answer refused) };
 
     /// Appends the answer to a line that is longer than its reader's limit, so that its bytes aren't known.
     fn refuse_long(&self, alloc: Global, number: u64, text: &mut Vec<u8>) -> Result<(), AllocError>
-        ensures { OnOk result ((answer : List ℕ) × (text.new.items ≡ text.old.items ++ answer) × refuses self.now number answer) };
+        ensures { OnOk result ((answer : List ℕ) × (text.new.items ≡ text.old.items ++ answer) × HasNoFeed answer × refuses self.now number answer) };
 }
 
 /// Why not all lines of bytes in memory were answered. `Display` writes the variant's name.
@@ -66,7 +67,7 @@ pub enum StreamFault {
     /// The sink failed.
     #[error("WriteFailed")]
     WriteFailed,
-    /// An allocation failed, or there are more lines than 64 bits count.
+    /// An allocation failed, or there are more lines or reads than 64 bits count.
     #[error("NoMemory")]
     NoMemory,
 }

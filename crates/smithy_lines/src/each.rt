@@ -1,5 +1,5 @@
 //! The lines of a source, one after the other.
-ghost use Rattle.std.specs.Prelude.{◌≡◌, ◌<◌, length, false, IfOk, OnOk};
+ghost use Rattle.std.specs.Prelude.{◌≡◌, ◌<◌, ◌⊎◌, length, false, IfOk, IfErr, OnOk};
 ghost use Rattle.smithy_lines.specs.Sources.{AnswersUpTo, AnswersEach};
 
 use crate::answer::{AnswerLine, StreamFault};
@@ -33,6 +33,7 @@ fn answer_from<A: AnswerLine, S: Source, K: Sink>(
     requires { 0 < length buffer.old }
     ensures answered { AnswersEach (AnswersUpTo longest (A.answers answers.now) (A.refuses answers.now)) result (S.told source.old) (S.told source.new) (K.told out.old) (K.told out.new) }
     ensures passed_on { OnOk result (K.holds_back out.new ≡ false) }
+    ensures passed_on_before { IfErr result (λ e. e ≡ StreamFault.ReadFailed → (K.holds_back out.new ≡ false) ⊎ (out.new ≡ out.old)) }
 {
     let answers = UpTo { answers, longest };
     let mut held = Vec::new(alloc);
@@ -66,6 +67,7 @@ pub fn answer_each<A: AnswerLine, S: Source, K: Sink>(
 ) -> Result<bool, StreamFault>
     ensures answered { AnswersEach (AnswersUpTo longest (A.answers answers.now) (A.refuses answers.now)) result (S.told source.old) (S.told source.new) (K.told out.old) (K.told out.new) }
     ensures passed_on { OnOk result (K.holds_back out.new ≡ false) }
+    ensures passed_on_before { IfErr result (λ e. e ≡ StreamFault.ReadFailed → (K.holds_back out.new ≡ false) ⊎ (out.new ≡ out.old)) }
 {
     let mut buffer = zeros(alloc, PIECE)?;
     answer_from(alloc, answers, longest, buffer.as_mut_slice(), source, out)

@@ -2,8 +2,8 @@
 ghost use Rattle.std.specs.Prelude.{◌≡◌, ◌≤◌, ℕ, List, drop, length, false, MatchResult, IfOk, OnOk};
 ghost use Rattle.smithy_outside.specs.Outside.{Shown};
 ghost use Rattle.smithy_lines.specs.Lines.{lines_of, HasNoFeed};
-ghost use Rattle.smithy_lines.specs.Answered.{AnswersAll, EndsIn};
-ghost use Rattle.smithy_lines.specs.Private.SoFar.{IsSoFar, IsRest, IsHeld, ServesFor};
+ghost use Rattle.smithy_lines.specs.Answered.{AnswersAll};
+ghost use Rattle.smithy_lines.specs.Private.SoFar.{IsSoFar, IsRest, IsHeld, ServesFor, EndsEarly};
 
 use crate::answer::{AnswerFault, AnswerLine};
 use crate::batch::{Batch, answer_next, pass_on};
@@ -23,7 +23,7 @@ pub(crate) fn answer_ended<A: AnswerLine, K: Sink>(
     ensures none { IfOk result (λ at. HasNoFeed (drop at bytes.now)) }
     ensures answered { (taken : List ℕ) (start : Shown) → IsRest (A.answers answers.now) taken bytes.now batch.old start (K.told out.old) → MatchResult result
         (λ at. IsRest (A.answers answers.now) taken (drop at bytes.now) batch.new start (K.told out.new))
-        (λ e. EndsIn (A.answers answers.now) (lines_of taken) e start (K.told out.new)) }
+        (λ e. EndsEarly (A.answers answers.now) taken e start (K.told out.new)) }
 {
     let mut at = 0;
     while let Some(len) = line_len(bytes, at) {

@@ -1,9 +1,8 @@
 //! The lines of a source, piece by piece.
-ghost use Rattle.std.specs.Prelude.{◌≡◌, ◌++◌, ◌∷◌, ℕ, List, [], MatchResult, OnOk};
+ghost use Rattle.std.specs.Prelude.{◌≡◌, ◌⊎◌, ◌++◌, ◌∷◌, ℕ, List, [], false, MatchResult, OnOk};
 ghost use Rattle.smithy_outside.specs.Outside.{Shown};
-ghost use Rattle.smithy_lines.specs.Lines.{lines_of};
 ghost use Rattle.smithy_lines.specs.Answered.{EndsIn};
-ghost use Rattle.smithy_lines.specs.Private.SoFar.{IsSoFar, IsRest, IsHeld, ServesFor, HasBegun};
+ghost use Rattle.smithy_lines.specs.Private.SoFar.{IsSoFar, IsRest, IsHeld, ServesFor, HasBegun, EndsEarly};
 
 use crate::answer::{AnswerFault, AnswerLine};
 use crate::batch::{Batch, answer_next, pass_on};
@@ -55,9 +54,10 @@ fn answer_after<A: AnswerLine, K: Sink>(
     out: &mut K,
 ) -> Result<(), AnswerFault>
     requires { held.old.items ≡ [] }
-    ensures { (taken : List ℕ) (start : Shown) → ((front whole : List ℕ) → IsHeld longest front whole → ServesFor (A.answers answers.now) front whole) → IsRest (A.answers answers.now) taken bytes.now batch.old start (K.told out.old) → MatchResult result
+    ensures passed_on { OnOk result (K.holds_back out.new ≡ false) }
+    ensures answered { (taken : List ℕ) (start : Shown) → ((front whole : List ℕ) → IsHeld longest front whole → ServesFor (A.answers answers.now) front whole) → IsRest (A.answers answers.now) taken bytes.now batch.old start (K.told out.old) → MatchResult result
         (λ _. HasBegun (A.answers answers.now) longest taken held.new.items batch.new start (K.told out.new))
-        (λ e. EndsIn (A.answers answers.now) (lines_of taken) e start (K.told out.new)) }
+        (λ e. EndsEarly (A.answers answers.now) taken e start (K.told out.new)) }
 {
     let at = answer_ended(alloc, answers, bytes, batch, out)?;
     hold(longest, after(bytes, at), held)?;
@@ -75,9 +75,10 @@ pub(crate) fn answer_piece<A: AnswerLine, K: Sink>(
     batch: &mut Batch,
     out: &mut K,
 ) -> Result<(), AnswerFault>
-    ensures { (taken : List ℕ) (start : Shown) → HasBegun (A.answers answers.now) longest taken held.old.items batch.old start (K.told out.old) → MatchResult result
+    ensures passed_on { OnOk result ((K.holds_back out.new ≡ false) ⊎ (out.new ≡ out.old)) }
+    ensures answered { (taken : List ℕ) (start : Shown) → HasBegun (A.answers answers.now) longest taken held.old.items batch.old start (K.told out.old) → MatchResult result
         (λ _. HasBegun (A.answers answers.now) longest (taken ++ piece.now) held.new.items batch.new start (K.told out.new))
-        (λ e. EndsIn (A.answers answers.now) (lines_of (taken ++ piece.now)) e start (K.told out.new)) }
+        (λ e. EndsEarly (A.answers answers.now) (taken ++ piece.now) e start (K.told out.new)) }
 {
     let Some(len) = line_len(piece, 0) else {
         hold(longest, piece, held)?;

@@ -1,3 +1,7 @@
 pub mod MemberLemmas
 pub mod RequestLemmas
+pub mod WritesLemmas
+pub mod NoFeedTexts
+pub mod NoFeedForms
+pub mod NoFeedBodies
 pub mod LineLemmas

@@ -1,5 +1,6 @@
 -- to be believed, in this order
 pub mod TreeMembers
+pub mod Writes
 pub mod Requests
 pub mod LineBodies
 pub mod Replayed

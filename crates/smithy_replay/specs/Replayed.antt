@@ -7,6 +7,7 @@ use Rattle.smithy_transcode.specs.declared.wire.TranscodeError.TheVariants.{Inva
 use Rattle.smithy_transcode.specs.declared.wire.Unfit.TheVariants.{Document, Null, Instant}
 use Rattle.smithy_transcode.specs.Wires.{Wire, json, query, unfit}
 use Rattle.smithy_transcode.specs.Spelling.{body}
+use Rattle.smithy_transcode.specs.Transcoding.{TellsAgain}
 use Rattle.smithy_lines.specs.Lines.{lines_of}
 use Rattle.smithy_lines.specs.Answered.{Answers, Answered}
 use Rattle.smithy_replay.specs.LineBodies.{line_of, LineSpells, RefusesLine, SpellsNoneFor}
@@ -29,12 +30,12 @@ front true n false = decimal n ++ codes " POST / "
 front true n true = decimal n ++ codes " "
 front false n refused = []
 
--- The answer to a line with this number: the body of what the line spells, where the wanted wire can express it, and else the text of
--- a refusal whose cause holds for the line.
+-- The answer to a line with this number: the body of what the line spells, where the wanted wire can express it, which tells the value
+-- again; and else the text of a refusal whose cause holds for the line.
 abbrev pub AnswersLine : Table → ℕ → Wire → Wire → Bool → Answers
 AnswersLine table root from to numbered n line answer false =
     (v : Value) × LineSpells from table root line v × (unfit to table root v ≡ None)
-    × (answer ≡ front numbered n false ++ line_of to (body to table root v))
+    × (answer ≡ front numbered n false ++ line_of to (body to table root v)) × TellsAgain to table root (body to table root v) v
 AnswersLine table root from to numbered n line answer true =
     SpellsNoneFor table root from to line
     × ((e : TranscodeError) × RefusesLine table root from to line e × (answer ≡ front numbered n true ++ refusal_text e))

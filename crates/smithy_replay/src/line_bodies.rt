@@ -38,6 +38,7 @@ pub(crate) fn transcode_line(
     requires root { IsStructure (kind_of shapes.now (shape_place root.0)) }
     ensures { LineGives shapes.now root.0 (wire_of from.now) (wire_of to.now) line.now result }
 {
+    prove!((root.0 as usize) < shapes.len());
     if let Wire::Cbor { .. } = from {
         let body = decoded(alloc, line)?;
         return transcode(alloc, shapes, root, from, &body, to);

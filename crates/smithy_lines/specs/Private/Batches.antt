@@ -2,13 +2,14 @@
 use Rattle.std.specs.Prelude.{◌≡◌, ◌++◌, ◌+◌, ℕ, List, [], ◌∷◌, Bool, ◌||◌, Result, Ok, Err}
 use Rattle.smithy_outside.specs.Outside.{Shown, MetOneFault, MetNoFault, Took, TookPrefix}
 use Rattle.smithy_lines.specs.declared.batch.Batch.{Batch}
-use Rattle.smithy_lines.specs.Lines.{line_feed}
+use Rattle.smithy_lines.specs.Lines.{line_feed, HasNoFeed}
 use Rattle.smithy_lines.specs.Answered.{Answers}
 
 -- the answer to the next line was added
 abbrev pub AddsAnswer : Answers → List ℕ → Batch → Batch → Type 0
 AddsAnswer answers line old new =
-    (answer : List ℕ) × (is : Bool) × answers (old.count + 1) line answer is × (new.text.items ≡ old.text.items ++ answer ++ line_feed ∷ [])
+    (answer : List ℕ) × (is : Bool) × answers (old.count + 1) line answer is × HasNoFeed answer
+    × (new.text.items ≡ old.text.items ++ answer ++ line_feed ∷ [])
     × (new.count ≡ old.count + 1) × (new.refused ≡ (old.refused || is))
 
 -- the answers that waited were taken, or a prefix of them

@@ -11,5 +11,5 @@ returns-in_err-buffer-clause-answered g c =
     let answers = g.A.AnswerLine in (
       [],
       gave_nothing (g.S.Source.told c.args.source.now),
-      rw (p.1, p.2) ((refl, refl), (refl, refl), none_taken (AnswersUpTo c.args.longest (answers.answers c.args.answers.now) (answers.refuses c.args.answers.now)) (g.K.Sink.told c.args.out.now)),
+      rw (p.1, p.2) ((refl, refl), none_taken (AnswersUpTo c.args.longest (answers.answers c.args.answers.now) (answers.refuses c.args.answers.now)) (g.S.Source.told c.args.source.now) (g.K.Sink.told c.args.out.now)),
     )

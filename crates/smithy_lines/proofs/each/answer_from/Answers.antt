@@ -1,4 +1,4 @@
-use Rattle.std.proofs.Common.{◌++◌, [], take, Ok, refl, sym, ap, subst, rules, arith}
+use Rattle.std.proofs.Common.{◌≡◌, ◌++◌, [], take, Ok, false, inr, refl, sym, ap, subst, rules, arith}
 use Rattle.std.proofs.lemmas.Result.{err_from_is_err_and}
 use Rattle.smithy_outside.specs.Outside.{Gave}
 use Rattle.smithy_outside.proofs.Moved.{gave_nothing, gave_more}
@@ -7,7 +7,7 @@ use Rattle.smithy_lines.specs.declared.answer.AnswerFault.TheVariants as answer_
 use Rattle.smithy_lines.specs.Sources.{AnswersUpTo}
 use Rattle.smithy_lines.specs.Private.SoFar.{IsHeld}
 use Rattle.smithy_lines.proofs.AnsweredLemmas.{rest_ends}
-use Rattle.smithy_lines.proofs.StreamLemmas.{gave_still, gave_none, stream_begun, ended_taken, ends_each}
+use Rattle.smithy_lines.proofs.StreamLemmas.{gave_still, gave_none, stream_begun, ended_taken, ends_before_end, ends_at_end, no_read_fault, passed_since}
 use Rattle.smithy_lines.proofs.each.answer_from.Goals as goal
 
 pub loop-init : goal.loop-init
@@ -22,6 +22,7 @@ loop-init g c =
       );
       no_fault = (refl, refl);
       room = c.requires;
+      passed_on = inr refl;
     }
 
 pub returns-in_err-count-clause-answered : goal.returns-in_err-count-clause-answered
@@ -49,8 +50,9 @@ returns-in_err-answer_last-clause-answered g c =
       b.0,
       gave_none b.0 c.read.new.into c.in_ok-count.count (source c.args.source.now) (source c.loop.source) (source c.read.new.self) c.if-count-eq0.true b.1 told.gave,
       rw (p.1, p.2)
-          (ends_each answers b.0 c.in_err-answer_last.field-0.0 (source c.args.source.now) (source c.read.new.self) (g.K.Sink.told c.args.out.now) (g.K.Sink.told c.answer_last.new.out)
+          (ends_at_end answers b.0 c.in_err-answer_last.field-0.0 (source c.args.source.now) (source c.read.new.self) (g.K.Sink.told c.args.out.now) (g.K.Sink.told c.answer_last.new.out)
           (no_fault_after (source c.args.source.now) (source c.loop.source) (source c.read.new.self) c.loop.invariant.no_fault told.counts)
+          (told.end (ap Ok c.if-count-eq0.true) (search rules))
           (c.in_err-answer_last.ensures.answered c.args.longest b.0 b.2.line (g.K.Sink.told c.args.out.now) b.2.none is_held (b.2.serves c.deref.result.now b.2.line is_held) b.2.is_rest)),
     )
 
@@ -83,9 +85,9 @@ returns-in_err-answer_piece-clause-answered g c =
       subst (λ l. Gave (b.0 ++ l) (source c.args.source.now) (source c.read.new.self)) (sym c.part.ensures)
           (gave_more b.0 (take c.in_ok-count.count c.read.new.into) (source c.args.source.now) (source c.loop.source) (source c.read.new.self) b.1 told.gave),
       rw (p.1, p.2)
-          (ends_each answers (b.0 ++ c.part.result.now) c.in_err-answer_piece.field-0.0 (source c.args.source.now) (source c.read.new.self) (g.K.Sink.told c.args.out.now) (g.K.Sink.told c.answer_piece.new.out)
+          (ends_before_end answers (b.0 ++ c.part.result.now) c.in_err-answer_piece.field-0.0 (source c.args.source.now) (source c.read.new.self) (g.K.Sink.told c.args.out.now) (g.K.Sink.told c.answer_piece.new.out)
           (no_fault_after (source c.args.source.now) (source c.loop.source) (source c.read.new.self) c.loop.invariant.no_fault told.counts)
-          (c.in_err-answer_piece.ensures b.0 (g.K.Sink.told c.args.out.now) b.2)),
+          (c.in_err-answer_piece.ensures.answered b.0 (g.K.Sink.told c.args.out.now) b.2)),
     )
 
 pub loop-preserved : goal.loop-preserved
@@ -98,10 +100,11 @@ loop-preserved g c =
         b.0 ++ c.part.result.now,
         subst (λ l. Gave (b.0 ++ l) (source c.args.source.now) (source c.read.new.self)) (sym c.part.ensures)
             (gave_more b.0 (take c.in_ok-count.count c.read.new.into) (source c.args.source.now) (source c.loop.source) (source c.read.new.self) b.1 told.gave),
-        c.in_ok-answer_piece.ensures b.0 (g.K.Sink.told c.args.out.now) b.2,
+        c.in_ok-answer_piece.ensures.answered b.0 (g.K.Sink.told c.args.out.now) b.2,
       );
       no_fault = no_fault_after (source c.args.source.now) (source c.loop.source) (source c.read.new.self) c.loop.invariant.no_fault told.counts;
       room = search rules;
+      passed_on = passed_since (λ k. g.K.Sink.holds_back k ≡ false) c.args.out.now c.loop.out c.answer_piece.new.out c.in_ok-answer_piece.ensures.passed_on c.loop.invariant.passed_on;
     }
 
 pub returns-clause-answered : goal.returns-clause-answered
@@ -111,6 +114,21 @@ returns-clause-answered g c =
     let b = c.loop.invariant.begun in (
       b.0,
       b.1,
-      ends_each answers b.0 answer_faults.NoMemory (source c.args.source.now) (source c.loop.source) (g.K.Sink.told c.args.out.now) (g.K.Sink.told c.loop.out) c.loop.invariant.no_fault
+      ends_before_end answers b.0 answer_faults.NoMemory (source c.args.source.now) (source c.loop.source) (g.K.Sink.told c.args.out.now) (g.K.Sink.told c.loop.out) c.loop.invariant.no_fault
           (rest_ends answers b.0 b.2.line c.loop.batch (g.K.Sink.told c.args.out.now) (g.K.Sink.told c.loop.out) b.2.is_rest),
     )
+
+pub returns-in_err-count-clause-passed_on_before : goal.returns-in_err-count-clause-passed_on_before
+returns-in_err-count-clause-passed_on_before g c =
+    let p = err_from_is_err_and c.from_residual.result c.from_residual.ensures.1 in
+    rw (p.1, p.2) (λ e. c.loop.invariant.passed_on)
+
+pub returns-in_err-answer_last-clause-passed_on_before : goal.returns-in_err-answer_last-clause-passed_on_before
+returns-in_err-answer_last-clause-passed_on_before g c =
+    let p = err_from_is_err_and c.from_residual-in_err-answer_last.result c.from_residual-in_err-answer_last.ensures.1 in
+    rw (p.1, p.2) (λ e. absurd (no_read_fault c.in_err-answer_last.field-0.0 e))
+
+pub returns-in_err-answer_piece-clause-passed_on_before : goal.returns-in_err-answer_piece-clause-passed_on_before
+returns-in_err-answer_piece-clause-passed_on_before g c =
+    let p = err_from_is_err_and c.from_residual-in_err-answer_piece.result c.from_residual-in_err-answer_piece.ensures.1 in
+    rw (p.1, p.2) (λ e. absurd (no_read_fault c.in_err-answer_piece.field-0.0 e))

@@ -5,28 +5,28 @@ use Rattle.smithy_lines.proofs.StreamLemmas.{nothing_held}
 use Rattle.smithy_lines.specs.Private.SoFar.{IsHeld}
 use Rattle.smithy_lines.proofs.streaming.answer_after.Goals as goal
 
-pub returns-in_err-at : goal.returns-in_err-at
-returns-in_err-at g c taken start serves w =
+pub returns-in_err-at-clause-answered : goal.returns-in_err-at-clause-answered
+returns-in_err-at-clause-answered g c taken start serves w =
     let p = err_from_is_err_and c.from_residual.result c.from_residual.ensures.1 in
     rw (p.1, p.2) (c.in_err-at.ensures.answered taken start w)
 
-pub returns-in_err-hold : goal.returns-in_err-hold
-returns-in_err-hold g c taken start serves w =
+pub returns-in_err-hold-clause-answered : goal.returns-in_err-hold-clause-answered
+returns-in_err-hold-clause-answered g c taken start serves w =
     let answers = g.A.AnswerLine.answers c.args.answers.now in
     let p = err_from_is_err_and c.from_residual-in_err-hold.result c.from_residual-in_err-hold.ensures.1 in
     rw (p.1, p.2)
     (rest_ends answers taken (drop c.in_ok-at.at c.args.bytes.now) c.answer_ended.new.batch start (g.K.Sink.told c.answer_ended.new.out) (c.in_ok-at.ensures.answered taken start w))
 
-pub returns-in_err-pass_on : goal.returns-in_err-pass_on
-returns-in_err-pass_on g c taken start serves w =
+pub returns-in_err-pass_on-clause-answered : goal.returns-in_err-pass_on-clause-answered
+returns-in_err-pass_on-clause-answered g c taken start serves w =
     let answers = g.A.AnswerLine.answers c.args.answers.now in
     let told = c.in_err-pass_on.ensures.written in
     let p = err_from_is_err_and c.from_residual-in_err-pass_on.result c.from_residual-in_err-pass_on.ensures.1 in
     rw (p.1, p.2)
     (rest_sink answers taken (drop c.in_ok-at.at c.args.bytes.now) c.answer_ended.new.batch start (g.K.Sink.told c.answer_ended.new.out) (g.K.Sink.told c.pass_on.new.out) (c.in_ok-at.ensures.answered taken start w) told.0 told.1)
 
-pub returns : goal.returns
-returns g c taken start serves w =
+pub returns-clause-answered : goal.returns-clause-answered
+returns-clause-answered g c taken start serves w =
     let answers = g.A.AnswerLine.answers c.args.answers.now in
     let rest = drop c.in_ok-at.at c.args.bytes.now in
     let told = c.in_ok-pass_on.ensures.written in

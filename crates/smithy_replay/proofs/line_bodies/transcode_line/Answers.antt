@@ -18,8 +18,8 @@ pub returns-in-Cbor : goal.returns-in-Cbor
 returns-in-Cbor c =
     let line = c.args.line.now in
     let at = ap (λ w. body_of (wire_of w) line) c.in-Cbor.is in
-    line_gives c.args.shapes.now c.args.root.0 (wire_of c.args.from.now) (wire_of c.args.to.now) line c.deref.result.now c.transcode.result (at ∙ c.in_ok-body.ensures.ok ∙ ap Some (sym c.deref.ensures.value)) c.transcode.ensures
+    line_gives c.args.shapes.now c.args.root.0 (wire_of c.args.from.now) (wire_of c.args.to.now) line c.deref.result.now c.transcode.result c.len.ensures.accepted (at ∙ c.in_ok-body.ensures.ok ∙ ap Some (sym c.deref.ensures.value)) c.transcode.ensures
 
 pub returns : goal.returns
 returns c =
-    line_gives c.args.shapes.now c.args.root.0 (wire_of c.args.from.now) (wire_of c.args.to.now) c.args.line.now c.args.line.now c.transcode-2.result (plain_body c.args.from.now c.args.line.now c.in_default.not-Cbor) c.transcode-2.ensures
+    line_gives c.args.shapes.now c.args.root.0 (wire_of c.args.from.now) (wire_of c.args.to.now) c.args.line.now c.args.line.now c.transcode-2.result c.len.ensures.accepted (plain_body c.args.from.now c.args.line.now c.in_default.not-Cbor) c.transcode-2.ensures
