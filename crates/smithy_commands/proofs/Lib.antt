@@ -1,4 +1,5 @@
 mod Refusals
+mod OneInputLemmas
 mod TranscodeLemmas
 mod GenLemmas
 mod CompareLemmas

@@ -1,5 +1,5 @@
 -- What the checks that commands share say where they fail.
-use Rattle.std.proofs.Common.{◌≡◌, ◌≢◌, ◌<◌, ◌∙◌, inl, inr, ℕ, List, length, Some, Result, Err, IsErrOf, refl, sym, ap, subst, arith}
+use Rattle.std.proofs.Common.{◌≡◌, ◌≢◌, ◌<◌, ◌∙◌, ◌⊎◌, inl, inr, ℕ, List, length, Some, true, Result, Err, IsErrOf, refl, sym, subst, arith}
 use Rattle.std.specs.declared.vec.Vec.{Vec}
 use Rattle.std.specs.declared.alloc.Global.{Global}
 use Rattle.smithy_outside.specs.declared.outside.LoadFault.{LoadFault}
@@ -11,11 +11,11 @@ use Rattle.smithy_declarations.specs.TableText.{Lines, declarations, declaration
 use Rattle.smithy_declarations.specs.Acceptance.{accepted, refused, bad_line, build_of, table_of}
 use Rattle.smithy_declarations.specs.DeclViews.{IsRefusedBy, IsLineFault}
 use Rattle.smithy_declarations.specs.Table.{Table, IsStructure, kind_of, shape_place, declared_as}
-use Rattle.smithy_outside.specs.Outside.{Shown, MetNoFault, Shows, GavePast, IsCountedLoad}
+use Rattle.smithy_outside.specs.Outside.{Shown, missing, MetNoFault, Shows, GavePast, IsCountedLoad}
 use Rattle.smithy_outside.proofs.Moved.{gave_longer}
-use Rattle.smithy_commands.specs.Status.{status_of_load_fault, status_of_table_fault}
+use Rattle.smithy_commands.specs.Status.{tells_output, status_of_load_fault, status_of_table_fault}
 use Rattle.smithy_commands.specs.declared.status.Status.{Status}
-use Rattle.smithy_commands.specs.declared.status.Status.TheVariants.{ReadFailed, OutOfMemory, TableRefused, NoSuchShape, NotAStructure, TooLong}
+use Rattle.smithy_commands.specs.declared.status.Status.TheVariants.{Done, ReadFailed, OutOfMemory, TableRefused, NoSuchShape, NotAStructure, TooLong, Differs, LinesRefused}
 use Rattle.smithy_commands.specs.Checks.{longest_table, longest_input, Sources, IsLoaded, IsInOrder, IsRoot, RefusesTable, RefusesTableChecks, RefusesChecks}
 use Rattle.smithy_commands.specs.Private.Stages.{FailsToLoad, FailsToFind}
 
@@ -61,10 +61,6 @@ build_fails old new text decls NoMemory loaded e r = tt
 abbrev unread : LoadFault → Result (Vec ℕ Global) LoadFault
 unread fault = Err fault
 
--- what a step answers that is refused by this status
-abbrev refused_by : Status → Result (Vec ℕ Global) Status
-refused_by status = Err status
-
 -- a read that is refused otherwise than by a fault meets none
 pub well_unless_read_failed : (fault : LoadFault) (old new : Shown) → IsCountedLoad (unread fault) old new → status_of_load_fault fault ≢ ReadFailed
     → MetNoFault old new
@@ -72,26 +68,7 @@ well_unless_read_failed load_faults.Failed old new counts other = absurd (other 
 well_unless_read_failed load_faults.TooLong old new counts other = counts
 well_unless_read_failed load_faults.NoMemory old new counts other = counts
 
-pub well_unless_failed : (fault : LoadFault) (old new : Shown) → IsCountedLoad (unread fault) old new → refused_by (status_of_load_fault fault) ≢ refused_by ReadFailed
-    → MetNoFault old new
-well_unless_failed fault old new counts other = well_unless_read_failed fault old new counts (λ e. other (ap refused_by e))
-
--- the table wasn't loaded
-pub load_refuses : (root_name : List ℕ) (old new : Sources) (status : Status) → new.input ≡ old.input → FailsToLoad old.table new.table status
-    → RefusesChecks root_name old new status
-load_refuses root_name old new ReadFailed kept why = inl (kept, why)
-load_refuses root_name old new OutOfMemory kept why = tt
-load_refuses root_name old new TooLong kept why = inl (kept, why)
-load_refuses root_name old new (TableRefused fault) kept why = (kept, why)
-load_refuses root_name old new _ kept why = absurd why
-
 module _ (root_name : List ℕ) (old new : Sources) (text : List ℕ) (table : Table) (loaded : IsLoaded longest_table text old.table) (is : table_of text ≡ accepted table) where
-  -- the root isn't there
-  pub find_refuses : (status : Status) → new.input ≡ old.input → FailsToFind table root_name status → RefusesChecks root_name old new status
-  find_refuses NoSuchShape kept why = (kept, (text, loaded, (table, is, why)))
-  find_refuses NotAStructure kept why = (kept, (text, loaded, (table, is, why)))
-  find_refuses _ kept why = absurd why
-
   -- the input wasn't read
   pub read_refuses : (root : ℕ) → IsRoot root_name table root → (fault : LoadFault) → MetNoFault old.table new.table → IsCountedLoad (unread fault) old.input new.input
       → (IsErrOf (unread fault) load_faults.TooLong → GavePast longest_input old.input new.input)
@@ -123,6 +100,25 @@ table_refuses root_name old new OutOfMemory kept why = tt
 table_refuses root_name old new TooLong kept why = inl (kept, why)
 table_refuses root_name old new _ kept why = (kept, why)
 
+-- ---- what every refusal says
+
+pub missing_refuses : (root_name : List ℕ) (old new : Sources) → old.table.content ≡ missing → (status : Status) → RefusesChecks root_name old new status
+    → (status ≡ ReadFailed) ⊎ (status ≡ OutOfMemory)
+missing_refuses root_name old new gone ReadFailed why = inl refl
+missing_refuses root_name old new gone OutOfMemory why = inr refl
+missing_refuses root_name old new gone (TableRefused fault) why = absurd (why.1.1.there gone)
+missing_refuses root_name old new gone NoSuchShape why = absurd (why.1.1.there gone)
+missing_refuses root_name old new gone NotAStructure why = absurd (why.1.1.there gone)
+missing_refuses root_name old new gone TooLong (inl first) = absurd (first.1.0 gone)
+missing_refuses root_name old new gone TooLong (inr after) = absurd (after.1.there gone)
+missing_refuses root_name old new gone _ why = absurd why.1
+
+pub refusal_tells_nothing : (root_name : List ℕ) (old new : Sources) (status : Status) → RefusesChecks root_name old new status → tells_output status ≡ true → ⊥
+refusal_tells_nothing root_name old new Done why tells = why.1
+refusal_tells_nothing root_name old new Differs why tells = why.1
+refusal_tells_nothing root_name old new LinesRefused why tells = why.1
+refusal_tells_nothing root_name old new _ why tells = cc
+
 -- ---- a table that is told and in order
 
 -- what gave more than the limit had more
@@ -134,7 +130,7 @@ module _ (root_name text : List ℕ) (old new : Shown) (table : Table) (root : �
   same_text : (found : List ℕ) → IsLoaded longest_table found old → table_of found ≡ accepted table
   same_text found loaded = subst (λ (t : List ℕ). table_of t ≡ accepted table) (sym (loaded.whole text file.told)) is
 
-  same_table : (found : List ℕ) → IsLoaded longest_table found old → (other : Table) → table_of found ≡ accepted other → table ≡ other
+  pub same_table : (found : List ℕ) → IsLoaded longest_table found old → (other : Table) → table_of found ≡ accepted other → table ≡ other
   same_table found loaded other found_is = let same = same_text found loaded in cc (same, found_is)
 
   named_there : (other : Table) → table ≡ other → declared_as other root_name ≡ Some root
@@ -143,7 +139,7 @@ module _ (root_name text : List ℕ) (old new : Shown) (table : Table) (root : �
   structure_there : (other : Table) → table ≡ other → IsStructure (kind_of other (shape_place root))
   structure_there other same = subst (λ (t : Table). IsStructure (kind_of t (shape_place root))) same there.structure
 
-  same_root : (other : Table) → table ≡ other → (n : ℕ) → declared_as other root_name ≡ Some n → root ≡ n
+  pub same_root : (other : Table) → table ≡ other → (n : ℕ) → declared_as other root_name ≡ Some n → root ≡ n
   same_root other same n named = let first = named_there other same in cc (first, named)
 
   -- isn't refused

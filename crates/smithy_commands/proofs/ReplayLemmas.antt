@@ -5,13 +5,13 @@ use Rattle.smithy_lines.specs.Lines.{lines_of}
 use Rattle.smithy_lines.specs.Answered.{TookAll, EndsIn}
 use Rattle.smithy_lines.specs.declared.answer.AnswerFault.TheVariants as faults
 use Rattle.smithy_commands.specs.declared.status.Status.{Status}
-use Rattle.smithy_commands.specs.declared.status.Status.TheVariants.{Done, Usage, ReadFailed, WriteFailed, OutOfMemory, TableRefused, NoSuchShape, NotAStructure, TooLong, Differs, LinesRefused}
+use Rattle.smithy_commands.specs.declared.status.Status.TheVariants.{Done, Usage, ReadFailed, WriteFailed, OutOfMemory, TableRefused, NoSuchShape, NotAStructure, TooLong, LinesRefused}
 use Rattle.smithy_commands.specs.Status.{tells_output}
-use Rattle.smithy_commands.specs.Checks.{longest_input, Sources, AfterInput, RefusesTable, RefusesChecks, PassesChecks}
+use Rattle.smithy_commands.specs.Checks.{longest_input, AfterInput, RefusesTable, RefusesChecks, PassesChecks}
 use Rattle.smithy_commands.specs.Replay.{Replay, sources_of, line_answers, AfterReplay, IsUnused, Says, AllIsInOrder, ReplayAnswer}
 use Rattle.smithy_outside.specs.Outside.{Shown, Environment, missing, MetNoFault, Gave}
 use Rattle.smithy_outside.proofs.Faults.{has_failed, steady_meets_none}
-use Rattle.smithy_commands.proofs.Refusals.{past_limit, table_holds}
+use Rattle.smithy_commands.proofs.Refusals.{missing_refuses, refusal_tells_nothing, past_limit, table_holds}
 
 -- ---- a run that is all in order, and one over a missing file
 
@@ -64,23 +64,6 @@ refusal_says c old new out WriteFailed why = absurd why.1
 refusal_says c old new out OutOfMemory why = inl out
 refusal_says c old new out _ why = why
 
-missing_refuses : (c : Replay) (old new : Environment) → (old.files c.table_path).content ≡ missing → (status : Status)
-    → RefusesChecks c.root_name (sources_of c old) (sources_of c new) status → (status ≡ ReadFailed) ⊎ (status ≡ OutOfMemory)
-missing_refuses c old new gone ReadFailed why = inl refl
-missing_refuses c old new gone OutOfMemory why = inr refl
-missing_refuses c old new gone (TableRefused fault) why = absurd (why.1.1.there gone)
-missing_refuses c old new gone NoSuchShape why = absurd (why.1.1.there gone)
-missing_refuses c old new gone NotAStructure why = absurd (why.1.1.there gone)
-missing_refuses c old new gone TooLong (inl first) = absurd (first.1.0 gone)
-missing_refuses c old new gone TooLong (inr after) = absurd (after.1.there gone)
-missing_refuses c old new gone _ why = absurd why.1
-
-refusal_tells_nothing : (root_name : List ℕ) (old new : Sources) (status : Status) → RefusesChecks root_name old new status → tells_output status ≡ true → ⊥
-refusal_tells_nothing root_name old new Done why tells = why.1
-refusal_tells_nothing root_name old new Differs why tells = why.1
-refusal_tells_nothing root_name old new LinesRefused why tells = why.1
-refusal_tells_nothing root_name old new _ why tells = cc
-
 -- the lines aren't answered, and nothing is written
 pub nothing_replayed : (c : Replay) (old new : Environment) → NoFurther old new → Kept old new → new.out ≡ old.out → new.out_holds_back ≡ old.out_holds_back
     → (status : Status) → RefusesChecks c.root_name (sources_of c old) (sources_of c new) status
@@ -93,7 +76,7 @@ nothing_replayed c old new no_further kept out held status why table_is_well inp
   input_met_no_fault = input_is_well;
   out_met_no_fault = λ other. (ap (λ (s : Shown). s.faults) out, ap (λ (s : Shown). s.is_steady) out);
   files_are_kept = kept;
-  missing_is_a_fault = λ gone. missing_refuses c old new gone status why;
+  missing_is_a_fault = λ gone. missing_refuses c.root_name (sources_of c old) (sources_of c new) gone status why;
   complete = λ text input table root o. complete_of c old new text input table root o status says;
   steady_never_fails = λ file input out. steady_of c old new file input out status says;
   nothing_is_held_back = λ tells. absurd (refusal_tells_nothing c.root_name (sources_of c old) (sources_of c new) status why tells);

@@ -3,6 +3,7 @@ pub mod WireWords
 pub mod SmallNumber
 pub mod Status
 pub mod Checks
+pub mod OneInput
 pub mod Transcode
 pub mod Gen
 pub mod Compare

@@ -50,6 +50,16 @@ tells_output Differs = true
 tells_output LinesRefused = true
 tells_output _ = false
 
+-- the input is refused, or memory ran out
+abbrev pub refuses_input : Status → Bool
+refuses_input InvalidInput = true
+refuses_input TooDeep = true
+refuses_input TooWide = true
+refuses_input NotCarried = true
+refuses_input (Inexpressible u) = true
+refuses_input OutOfMemory = true
+refuses_input _ = false
+
 -- where a file or the input wasn't read
 abbrev pub status_of_load_fault : LoadFault → Status
 status_of_load_fault load_faults.Failed = ReadFailed

@@ -10,6 +10,7 @@ mod lines;
 mod replay;
 mod transcode;
 
+use crate::one_input::answer_input;
 use crate::status::Status;
 use compare::{Compare, compare_files};
 use generate::{Gen, write_generated};
@@ -17,7 +18,7 @@ use lines::{Lines, answer_lines};
 use replay::{Replay, replay_lines};
 use smithy_outside::{Files, Sink, Source};
 use std::alloc::Global;
-use transcode::{Transcode, transcode_input};
+use transcode::Transcode;
 
 /// A command of the program.
 #[derive(Clone, Copy)]
@@ -69,7 +70,7 @@ pub(crate) fn status_of<F: Files, S: Source, K: Sink>(
         return Status::Usage;
     };
     match command {
-        Command::Transcode(command) => transcode_input(alloc, command, files, input, out),
+        Command::Transcode(command) => answer_input(alloc, &command, files, input, out),
         Command::Gen(command) => write_generated(alloc, command, out),
         Command::Compare(command) => compare_files(alloc, command, files, out),
         Command::Lines(command) => answer_lines(alloc, command, files, input, out),

@@ -6,6 +6,7 @@
 
 mod checks;
 mod commands;
+mod one_input;
 mod reporting;
 mod running;
 mod small_number;

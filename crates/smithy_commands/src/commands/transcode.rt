@@ -1,14 +1,11 @@
 //! The command `transcode`: one body from wire to wire.
-ghost use Rattle.std.specs.Prelude.{◌≡◌, ◌≢◌, ◌≤◌, ◌+◌, ℕ, List, length, map, option_map, string_bytes, IfOk, IfErr};
-ghost use Rattle.smithy_outside.specs.Environment.{environment};
-ghost use Rattle.smithy_outside.specs.Outside.{MetNoFault, Gave};
-ghost use Rattle.smithy_commands.specs.Checks.{longest_input};
-ghost use Rattle.smithy_commands.specs.Transcode.{transcode_of, transcode_view, AfterTranscoding, Refuses, TranscodeAnswer};
+ghost use Rattle.std.specs.Prelude.{◌≡◌, map, option_map, string_bytes};
+ghost use Rattle.smithy_commands.specs.Transcode.{transcode_of, transcode_view, answers_of};
 
-use crate::checks::{MAX_INPUT_LEN, find_root, load_table};
+use crate::one_input::{Answer, AnswerInput};
 use crate::status::Status;
 use crate::wire_words::{WireWords, output_wire, read_wire, wire_of_words};
-use smithy_outside::{Files, Sink, Source, read_to_end, write_all};
+use smithy_shapes::{ShapeRef, Shapes};
 use smithy_transcode::transcode;
 use std::alloc::Global;
 
@@ -42,51 +39,29 @@ impl<'a> Transcode<'a> {
     }
 }
 
-// The body that the command asks for.
-fn body_of<F: Files, S: Source>(
-    alloc: Global,
-    command: Transcode<'_>,
-    files: &mut F,
-    input: &mut S,
-) -> Result<Vec<u8>, Status>
-    ensures body { IfOk result (λ body. AfterTranscoding (transcode_view command.entry)
-        (record { table = F.told files.old command.entry.table.now; input = S.told input.old })
-        (record { table = F.told files.new command.entry.table.now; input = S.told input.new })
-        (λ bytes. body.items ≡ bytes)) }
-    ensures refused { IfErr result (Refuses (transcode_view command.entry)
-        (record { table = F.told files.old command.entry.table.now; input = S.told input.old })
-        (record { table = F.told files.new command.entry.table.now; input = S.told input.new })) }
-    ensures table_met_no_fault { result ≢ Err Status.ReadFailed → MetNoFault (F.told files.old command.entry.table.now) (F.told files.new command.entry.table.now) }
-    ensures input_met_no_fault { result ≢ Err Status.ReadFailed → MetNoFault (S.told input.old) (S.told input.new) }
-    ensures kept { (at : List ℕ) → (F.told files.new at).content ≡ (F.told files.old at).content }
-    ensures no_further { (bytes : List ℕ) × Gave bytes (S.told input.old) (S.told input.new) × (length bytes ≤ longest_input + 1) }
-{
-    let source = wire_of_words(alloc, command.from)?;
-    let wanted = wire_of_words(alloc, command.to)?;
-    let table = load_table(alloc, files, command.table)?;
-    let root = find_root(&table, command.root)?;
-    let bytes = read_to_end(alloc, input, MAX_INPUT_LEN)?;
-    Ok(transcode(alloc, &table, root, &source, &bytes, &wanted)?)
-}
+impl AnswerInput for Transcode<'_> {
+    ghost command = { λ self. answers_of (transcode_view self) };
 
-/// Writes the body that the command asks for, and answers how the command ends.
-pub(crate) fn transcode_input<F: Files, S: Source, K: Sink>(
-    alloc: Global,
-    command: Transcode<'_>,
-    files: &mut F,
-    input: &mut S,
-    out: &mut K,
-) -> Status
-    ensures { TranscodeAnswer (transcode_view command.entry)
-        (environment F.Files S.Source K.Sink files.old input.old out.old)
-        (environment F.Files S.Source K.Sink files.new input.new out.new) result }
-{
-    let body = match body_of(alloc, command, files, input) {
-        Ok(body) => body,
-        Err(status) => return status,
-    };
-    match write_all(out, &body) {
-        Ok(()) => Status::Done,
-        Err(_) => Status::WriteFailed,
+    fn table(&self) -> &str {
+        self.table
+    }
+
+    fn root(&self) -> &str {
+        self.root
+    }
+
+    fn answer(
+        &self,
+        alloc: Global,
+        table: &Shapes,
+        root: ShapeRef,
+        input: &[u8],
+    ) -> Result<Answer, Status> {
+        let from = wire_of_words(alloc, self.from)?;
+        let to = wire_of_words(alloc, self.to)?;
+        Ok(Answer {
+            status: Status::Done,
+            bytes: transcode(alloc, table, root, &from, input, &to)?,
+        })
     }
 }

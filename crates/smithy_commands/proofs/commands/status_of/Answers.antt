@@ -2,7 +2,7 @@ use Rattle.std.proofs.Common.{Some, map, string_bytes, sym, ap, ◌∙◌, refl}
 use Rattle.smithy_outside.specs.Environment.{environment}
 use Rattle.smithy_outside.specs.Outside.{environment_of}
 use Rattle.smithy_commands.specs.Command.{transcode, gen, compare, lines, replay, command_view}
-use Rattle.smithy_commands.specs.Transcode.{transcode_view}
+use Rattle.smithy_commands.specs.Transcode.{transcode_view, answers_of}
 use Rattle.smithy_commands.specs.Gen.{gen_view}
 use Rattle.smithy_commands.specs.Compare.{compare_view}
 use Rattle.smithy_commands.specs.Lines.{lines_view}
@@ -10,19 +10,20 @@ use Rattle.smithy_commands.specs.Replay.{replay_view}
 use Rattle.smithy_commands.proofs.CompareLemmas.{compare_is_no_usage}
 use Rattle.smithy_commands.proofs.GenLemmas.{gen_is_no_usage}
 use Rattle.smithy_commands.proofs.LinesLemmas.{lines_is_no_usage}
+use Rattle.smithy_commands.proofs.OneInputLemmas.{input_is_no_usage}
 use Rattle.smithy_commands.proofs.ReplayLemmas.{replay_is_no_usage}
 use Rattle.smithy_commands.proofs.RunLemmas.{status_of_command, status_of_no_command}
-use Rattle.smithy_commands.proofs.TranscodeLemmas.{transcode_is_no_usage}
+use Rattle.smithy_commands.proofs.TranscodeLemmas.{transcode_answer}
 use Rattle.smithy_commands.proofs.commands.status_of.Goals as goal
 
 pub returns-in-Transcode : goal.returns-in-Transcode
 returns-in-Transcode g c =
     let old = environment g.F.Files g.S.Source g.K.Sink c.args.files.now c.args.input.now c.args.out.now in
-    let new = environment g.F.Files g.S.Source g.K.Sink c.transcode_input.new.files c.transcode_input.new.input c.transcode_input.new.out in
+    let new = environment g.F.Files g.S.Source g.K.Sink c.answer_input.new.files c.answer_input.new.input c.answer_input.new.out in
     let command = transcode_view c.in-Transcode.command in
-    let answer = c.transcode_input.ensures in
-    status_of_command (map string_bytes c.args.words.now) (transcode command) old new c.transcode_input.result (sym c.in-Some.ensures ∙ ap (λ x. Some (command_view x)) c.in-Transcode.is)
-    answer (transcode_is_no_usage command old new c.transcode_input.result answer) answer.files_are_kept
+    let answer = c.answer_input.ensures in
+    status_of_command (map string_bytes c.args.words.now) (transcode command) old new c.answer_input.result (sym c.in-Some.ensures ∙ ap (λ x. Some (command_view x)) c.in-Transcode.is)
+    (transcode_answer command old new c.answer_input.result answer) (input_is_no_usage (answers_of command) old new c.answer_input.result answer) answer.files_are_kept
 
 pub returns-in-Gen : goal.returns-in-Gen
 returns-in-Gen g c =
