@@ -10,7 +10,7 @@ use crate::attribute_value::{AttributeValue, are_attributes, read_attributes};
 use crate::attribute_writing::{member_under, write_attributes};
 use smithy_schema::{
     Accept, Scalar, Schema, SerdeError, ShapeDeserializer, ShapeSerializer, ShapeType,
-    StructConsumer, Target, WriteFields, Written, read_field, read_fields, write_field,
+    StructConsumer, Target, WriteFields, Written, read_field, write_field,
 };
 use std::collections::BTreeMap;
 
@@ -24,12 +24,19 @@ pub struct PutItemInput {
 }
 
 impl StructConsumer for PutItemInput {
+    ghost use Rattle.std.specs.Prelude.{false};
     ghost use Rattle.smithy_schema.specs.Fields.{TakesField};
     ghost use Rattle.dynamodb_client.specs.PutItem.{put_item_fields, IsPutItem};
 
     ghost call = { TakesField put_item_fields };
 
     ghost can_take = { λ _ outer. IsPutItem outer };
+
+    ghost takes_nulls = { false };
+
+    fn takes_nulls(&self) -> bool {
+        false
+    }
 
     fn member<D: ShapeDeserializer>(
         &mut self,
@@ -100,7 +107,7 @@ pub fn read_put_item<D: ShapeDeserializer>(
         table_name: None,
         item: None,
     };
-    read_fields(source, schema, &mut input)?;
+    source.read_struct(schema, &mut input)?;
     Ok(input)
 }
 

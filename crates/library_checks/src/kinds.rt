@@ -1,6 +1,7 @@
 //! A structure with a field of each small kind of scalar, read by `read_field` and written by `write_field`.
 ghost use Rattle.smithy_shapes.specs.Site.{site_of};
 
+use smithy_cbor_codec::CborCodec;
 use smithy_json_codec::JsonCodec;
 use smithy_schema::{
     FinishSerializer, Schema, SerdeError, SerializableStruct, ShapeDeserializer, ShapeSerializer,
@@ -25,6 +26,10 @@ struct Fields {
 impl StructConsumer for Fields {
     // The check tells what it reads.
     ghost call = { λ _ _ _ _ _ _ _. Unit {0} };
+
+    fn takes_nulls(&self) -> bool {
+        true
+    }
 
     fn member<D: ShapeDeserializer>(
         &mut self,
@@ -104,8 +109,7 @@ fn written(alloc: Global, shape: Schema<'_>, fields: &Fields) -> Result<Vec<u8>,
 pub fn each_kind_is_written_as_it_was_read(alloc: Global) -> Option<bool> {
     let body =
         b"{\"truth\":true,\"byte\":-128,\"short\":32767,\"long\":-9223372036854775808,\"bytes\":\"+/8=\"}";
-    let declarations = TableText::read(alloc, TABLE).ok()?;
-    let shapes = Shapes::build(alloc, declarations).ok()?;
+    let shapes = Shapes::build(alloc, TableText::read(alloc, TABLE).ok()?).ok()?;
     let shape = shapes.schema(shapes.find("S")?);
     let mut fields = unread();
     let codec = JsonCodec::strict(false);
@@ -119,4 +123,16 @@ pub fn each_kind_is_written_as_it_was_read(alloc: Global) -> Option<bool> {
             && fields.long == Some(-9223372036854775808)
             && again.as_slice() == body.as_slice(),
     )
+}
+
+// The consumer takes nulls, so the reader gives each of them to it.
+pub fn a_null_leaves_a_field_as_it_was(alloc: Global) -> Option<bool> {
+    let body = b"\xa4\x65truth\xf6\x64byte\x01\x64byte\xf6\x65bytes\xf6";
+    let shapes = Shapes::build(alloc, TableText::read(alloc, TABLE).ok()?).ok()?;
+    let shape = shapes.schema(shapes.find("S")?);
+    let mut fields = unread();
+    let codec = CborCodec::default();
+    let mut reader = codec.create_deserializer(alloc, body);
+    read_fields(&mut reader, &shape, &mut fields).ok()?;
+    Some(fields.truth.is_none() && fields.byte == Some(1) && fields.bytes.is_none())
 }

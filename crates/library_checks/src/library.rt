@@ -4,7 +4,7 @@ use smithy_json_codec::JsonCodec;
 use smithy_schema::{Accept, FinishSerializer, Shapes, TableText};
 use smithy_transcode::{Value, read_value};
 use std::alloc::Global;
-use sts_client::{AssumeRoleRequest, read_request, write_request};
+use sts_client::{AssumeRoleRequest, Credentials, read_credentials, read_request, write_request};
 
 // The member `a` of a body, or `None` where it spells no structure; `Some(None)` where there is no such member.
 fn member_a(alloc: Global, body: &[u8]) -> Option<Option<i128>> {
@@ -47,4 +47,18 @@ pub fn a_request_is_read_and_written(alloc: Global) -> Option<bool> {
     let shapes = Shapes::build(alloc, table).ok()?;
     let body = request_in_cbor(alloc, &shapes, b"{\"RoleArn\":\"a\"}")?;
     Some(body.as_slice() == b"\xbf\x67RoleArn\x61a\xff".as_slice())
+}
+
+const CREDENTIALS: &[u8] =
+    b"structure Credentials\nmember AccessKeyId string\nmember SecretAccessKey string\nmember SessionToken string\nmember Expiration timestamp\n";
+
+// A part of an answer that is read by itself, from a codec that gives nulls of members.
+pub fn a_null_token_is_no_token(alloc: Global) -> Option<bool> {
+    let table = TableText::read(alloc, CREDENTIALS).ok()?;
+    let shapes = Shapes::build(alloc, table).ok()?;
+    let schema = Credentials::accept(&shapes, "Credentials")?;
+    let codec = CborCodec::default();
+    let mut reader = codec.create_deserializer(alloc, b"\xa1\x6cSessionToken\xf6");
+    let keys = read_credentials(&schema, &mut reader).ok()?;
+    Some(keys.session_token.is_none())
 }

@@ -91,7 +91,9 @@ fn of_calls(alloc: Global, name: &str) -> Option<bool> {
             Some(discriminated::what_settings_leave_unsaid_is_unsupported(alloc))
         }
         "each_kind_is_written_as_it_was_read" => kinds::each_kind_is_written_as_it_was_read(alloc),
+        "a_null_leaves_a_field_as_it_was" => kinds::a_null_leaves_a_field_as_it_was(alloc),
         "a_body_is_read" => Some(library::a_body_is_read(alloc)),
+        "a_null_token_is_no_token" => library::a_null_token_is_no_token(alloc),
         "a_request_is_read_and_written" => library::a_request_is_read_and_written(alloc),
         "a_reader_that_has_failed_answers_so" => {
             readers::a_reader_that_has_failed_answers_so(alloc)

@@ -2,7 +2,7 @@
 
 use crate::answers::{push_refusal, refused};
 use crate::borrowing::{borrowing_call, is_borrowing_call};
-use crate::consumers::consume_call;
+use crate::consumers::{consume_call, is_consume_call};
 use crate::json_settings::json_codec;
 use crate::named::read_named;
 use crate::reads::{is_call, read_call};
@@ -29,8 +29,8 @@ fn read_line<'a, R: BorrowDeserializer<'a>>(
     } else if is_borrowing_call(word) {
         let answer = borrowing_call(alloc, shapes, source, word, &field.value, answers);
         push_refusal(alloc, answers, answer, count)?;
-    } else if word == "consume" {
-        let answer = consume_call(alloc, shapes, source, &field.value, answers);
+    } else if is_consume_call(word) {
+        let answer = consume_call(alloc, shapes, source, word, &field.value, answers);
         push_refusal(alloc, answers, answer, count)?;
     } else if is_call(word) {
         let answer = read_call(alloc, shapes, source, word, &field.value, answers);

@@ -51,6 +51,7 @@ impl<'a> CborDeserializer<'a> {
 
 impl ShapeDeserializer for CborDeserializer<'_> {
     ghost use Rattle.std.specs.Prelude.{◌≡◌, ℕ, FitsSigned, IfOk, IsOk, IsErr, IsErrOf, true, false, refl};
+    ghost use Rattle.std.proofs.Common.{subst};
     ghost use Rattle.smithy_schema.specs.Errors.{IsInvalid};
     ghost use Rattle.smithy_schema.specs.Containers.{GoesOnInStructure};
     ghost use Rattle.smithy_schema.specs.Passing.{ReadsNull, SkipsValue};
@@ -69,7 +70,7 @@ impl ShapeDeserializer for CborDeserializer<'_> {
     ghost use Rattle.smithy_cbor_values.specs.Standing.{cbor_relations, cbor_reader};
     ghost use Rattle.smithy_cbor_values.specs.ContainerSize.{cbor_sizes};
     ghost use Rattle.smithy_schema.specs.Sizes.{TellsSize};
-    ghost use Rattle.smithy_cbor_values.specs.Laws.{lawful as cbor_is_lawful, fit as cbor_fits, counts as cbor_counts, above as limits_are_above};
+    ghost use Rattle.smithy_cbor_values.specs.Laws.{lawful as cbor_is_lawful, fit as cbor_fits, counts as cbor_counts, above as limits_are_above, drops_nulls as cbor_drops_nulls};
 
     ghost Settings = { Settings };
 
@@ -96,7 +97,13 @@ impl ShapeDeserializer for CborDeserializer<'_> {
 
     ghost with_nulls = { λ value c. record c { dispatch_null_members = value } };
 
+    ghost sets = { λ c value. refl };
+
     ghost sets_back = { λ c value. refl };
+
+    ghost stays_set = { λ c value is. subst (λ v. record c { dispatch_null_members = v } ≡ c) is refl };
+
+    ghost drops_nulls = { λ c. cbor_drops_nulls (keep_limits (record c { dispatch_null_members = false })) refl };
 
     fn allocator(&self) -> Global {
         self.alloc

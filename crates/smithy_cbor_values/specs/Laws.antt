@@ -1,5 +1,6 @@
 -- The laws of reading, for CBOR.
-use Rattle.std.specs.Prelude.{◌≡◌, Bool, true}
+use Rattle.std.specs.Prelude.{◌≡◌, Bool, true, false}
+use Rattle.smithy_schema.specs.Nulls.{DropsNulls}
 use Rattle.smithy_schema.specs.Reading.{IsLawful, StandsFit, CountsOpeners, IsBelow}
 use Rattle.smithy_cbor_values.specs.Settings.{Settings, kept, without_limits}
 use Rattle.smithy_cbor_values.specs.Meaning.{rules_of}
@@ -28,6 +29,10 @@ rules_fit strict c = record {
 -- what stands with the limits kept is a value of its place, with bytes for all values inside of it
 pub fit : (c : Settings) → c.limits ≡ kept → StandsFit (cbor_relations c)
 fit c keeps = wire.stands_fit (frames_of c) (rules_of c) (wire_of c) keeps (rules_fit c.enforce_strictness c)
+
+-- nulls are dropped where the settings hand none on
+pub drops_nulls : (c : Settings) → c.dispatch_null_members ≡ false → DropsNulls (cbor_relations c)
+drops_nulls c off = wire.drops_nulls (frames_of c) (rules_of c) λ place keeps. let no : false ≡ true = rw off at keeps in cc
 
 -- containers are counted, where no structure is missing behind other bytes
 pub counts : (c : Settings) → c.enforce_strictness ≡ true → CountsOpeners (cbor_relations c)

@@ -33,6 +33,7 @@ pub struct JsonDeserializer<'c, 'a> {
 
 impl ShapeDeserializer for JsonDeserializer<'_, '_> {
     ghost use Rattle.std.specs.Prelude.{◌≡◌, ◌≤◌, ℕ, Some, true, false, refl, IfOk, IsOk, IsErrOf};
+    ghost use Rattle.std.proofs.Common.{subst};
     ghost use Rattle.smithy_schema.specs.Errors.{IsRefused, IsInvalid};
     ghost use Rattle.smithy_schema.specs.Containers.{GoesOnInStructure};
     ghost use Rattle.smithy_schema.specs.Passing.{ReadsNull, SkipsValue};
@@ -56,7 +57,7 @@ impl ShapeDeserializer for JsonDeserializer<'_, '_> {
     ghost use Rattle.smithy_json_values.specs.NumberText.{NumberTextLies};
     ghost use Rattle.smithy_json_values.specs.Documents.{DocumentStands, NoDocumentStands, TreeDocumentStands, NoTreeDocumentStands, MeetsOtherNumber, OpensDocumentTooDeep};
     ghost use Rattle.smithy_json_values.specs.LexicalGrammar.{rfc_8259};
-    ghost use Rattle.smithy_json_values.specs.Laws.{lawful as json_is_lawful, fit as json_fits, counts as json_counts, above as limits_are_above};
+    ghost use Rattle.smithy_json_values.specs.Laws.{lawful as json_is_lawful, fit as json_fits, counts as json_counts, above as limits_are_above, drops_nulls as json_drops_nulls};
 
     ghost Settings = { CodecSettings };
 
@@ -83,7 +84,13 @@ impl ShapeDeserializer for JsonDeserializer<'_, '_> {
 
     ghost with_nulls = { λ value c. record c { json = record c.json { dispatch_null_members = value } } };
 
+    ghost sets = { λ c value. refl };
+
     ghost sets_back = { λ c value. refl };
+
+    ghost stays_set = { λ c value is. subst (λ v. record c { json = record c.json { dispatch_null_members = v } } ≡ c) is refl };
+
+    ghost drops_nulls = { λ c. json_drops_nulls (keep_limits (record c.json { dispatch_null_members = false })) refl };
 
     fn allocator(&self) -> Global {
         self.alloc

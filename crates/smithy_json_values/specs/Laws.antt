@@ -1,11 +1,12 @@
 -- The laws of reading, for JSON.
-use Rattle.std.specs.Prelude.{◌≡◌, ◌↔◌, ℕ, List, true, option_map}
+use Rattle.std.specs.Prelude.{◌≡◌, ◌↔◌, ℕ, List, true, false, option_map}
 use Rattle.smithy_types.specs.Document.{Document, whole_document}
 use Rattle.smithy_types.specs.declared.number.Number.{Number}
 use Rattle.smithy_declarations.specs.declared.place.Place.{Place}
 use Rattle.smithy_declarations.specs.Table.{Table, document, kind_of}
 use Rattle.smithy_json_grammar.specs.Tree.{Json}
 use Rattle.smithy_json.specs.DocumentMeaning.{document_meaning}
+use Rattle.smithy_schema.specs.Nulls.{DropsNulls}
 use Rattle.smithy_schema.specs.Reading.{IsLawful, StandsFit, CountsOpeners, IsBelow}
 use Rattle.smithy_json_values.specs.Settings.{Settings, kept, without_limits}
 use Rattle.smithy_json_values.specs.LexicalGrammar.{frames_of}
@@ -30,6 +31,10 @@ rules_fit = tokens.fit_by_settings
 -- what stands with the limits kept is a value of its place, with bytes for all values inside of it
 pub fit : (c : Settings) → c.limits ≡ kept → StandsFit (json_relations c)
 fit c keeps = wire.stands_fit (frames_of (json_grammar c)) (json_rules c) (tokens_are_wire (json_grammar c).is_strict) keeps (rules_fit c)
+
+-- nulls are dropped where the settings hand none on, but those of documents
+pub drops_nulls : (c : Settings) → c.dispatch_null_members ≡ false → DropsNulls (json_relations c)
+drops_nulls c off = wire.drops_nulls (frames_of (json_grammar c)) (json_rules c) λ place keeps. rw off at keeps
 
 -- brackets are counted, where an empty rest is no structure
 pub counts : (c : Settings) → c.enforce_strictness ≡ true → CountsOpeners (json_relations c)

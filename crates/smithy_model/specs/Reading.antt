@@ -73,7 +73,8 @@ has_rpc es =
     has_protocol (codes "aws.protocols#awsJson1_0") es || has_protocol (codes "aws.protocols#awsJson1_1") es
     || has_protocol (codes "aws.protocols#awsQuery") es || has_protocol (codes "smithy.protocols#rpcv2Cbor") es
 
--- Bindings count: there is one of these protocols, and each one of them has them. A service-2.json is of the protocol that it names.
+-- Bindings count: there is one of these protocols, and each one of them has them. Any other protocol counts as none. A service-2.json is
+-- of the protocol that it names.
 abbrev pub has_http_bindings_in : Form → Json → List Entry → Bool
 has_http_bindings_in smithy root es = has_rest es && not (has_ec2 es || has_rpc es)
 has_http_bindings_in _ root es = bytes_eq (protocol_in root) (codes "rest-json") || bytes_eq (protocol_in root) (codes "rest-xml")

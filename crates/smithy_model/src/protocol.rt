@@ -80,7 +80,8 @@ fn has_rpc(entries: &[(&str, Value<'_>)]) -> bool
         || has_protocol(entries, "smithy.protocols#rpcv2Cbor")
 }
 
-/// Whether members may travel outside of the body: there is a protocol, and each is `restJson1` or `restXml`.
+/// Whether members may travel outside of the body: there is a known protocol, and each known one is `restJson1` or `restXml`. A protocol
+/// that isn't known counts as none.
 pub(crate) fn has_http_bindings(
     format: Format,
     root: &Value<'_>,
@@ -94,7 +95,7 @@ pub(crate) fn has_http_bindings(
     }
 }
 
-/// Whether there is a protocol, and each is `ec2Query`.
+/// Whether there is a known protocol, and each known one is `ec2Query`.
 pub(crate) fn is_ec2(format: Format, root: &Value<'_>, entries: &[(&str, Value<'_>)]) -> bool
     ensures { result ≡ is_ec2_in (form_view format) (value_view root.now) (map entry_view entries.now) }
 {

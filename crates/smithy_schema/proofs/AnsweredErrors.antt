@@ -7,7 +7,8 @@ use Rattle.smithy_declarations.specs.Value.{Value}
 use Rattle.smithy_schema.specs.Errors.{IsOfReader, IsOfCursor}
 use Rattle.smithy_schema.specs.Reading.{Cursor, ContainerKind, in_structure, in_list, Conducts, failed_at, Reader}
 use Rattle.smithy_schema.specs.Consuming.{Call, Route, Along, ended, refused, stopped, went, Consumes, unopened, entered, Rests, by_member, by_element}
-use Rattle.smithy_schema.specs.Fields.{TakesField, took, passed, broke}
+use Rattle.smithy_schema.specs.Passing.{ReadsNull}
+use Rattle.smithy_schema.specs.Fields.{TakesField, took, null_passed, passed, broke}
 use Rattle.smithy_schema.specs.Typed.{MayAnswer, FailsAsReader}
 use Rattle.smithy_schema.proofs.ConsumingLemmas.{same_error, is_error}
 
@@ -106,9 +107,15 @@ module _ {K C : Type 0} (route : Route K) (call : Call K C) (goes_sound : (k : K
           let (here, sound, may) = along_answers s t d g (Err e) along enters.failed e refl in
           broke_inside c here g e live sound may broken
 
+null_answers : (r : Reader) (d f : Cursor) (result : Result (Unit {0}) SerdeError) → ReadsNull r d f result → (e : SerdeError) → result ≡ Err e → MayAnswer d e
+null_answers r d f (Ok done) reads e is = absurd (let h : Ok done ≡ Err e = is in cc)
+null_answers r d f (Err h) reads e is =
+    subst (MayAnswer d) (same_error (Unit {0}) h e is) (reads.conduct.reading, λ failed. reads.conduct.failed.0 (is_error (Unit {0}) h Failed failed))
+
 -- a consumer that keeps fields
 field_answers : {C : Type 0} (fields : C → List (Option Value)) (r : Reader) (k : Option Site) (s t : C) (d f : Cursor) (result : Result (Unit {0}) SerdeError) → TakesField fields r k s d result t f → (e : SerdeError) → result ≡ Err e → MayAnswer d e
 field_answers fields r k s t d f result (took n v index reads after) e is = absurd (let h : Ok tt ≡ Err e = is in cc)
+field_answers fields r k s t d f result (null_passed declared due reads) e is = null_answers r d f result reads e is
 field_answers fields r k s t d f result passed e is = absurd (let h : Ok tt ≡ Err e = is in cc)
 field_answers fields r k s t d f result (broke {e = h} may why) e is = subst (MayAnswer d) (same_error (Unit {0}) h e is) may
 

@@ -32,7 +32,7 @@ on_ok P Q (Err e) f h = tt
 -- of a member it read a value, which is set.
 pub record TakesMembers {C : Type 0} (r : Reader) (outer : Site) (call : Call (Option Site) C) (members : C → MemberValues) : Type 0 where
   pub unknown : (s t : C) (d f : Cursor) → call None s d (Ok tt) t f → (f ≡ d) × (members t ≡ members s)
-  pub member : (n : ℕ) (site : Site) (s t : C) (d f : Cursor) → member_site outer n ≡ Some site → call (Some site) s d (Ok tt) t f
+  pub member : (n : ℕ) (site : Site) (s t : C) (c d f : Cursor) → member_site outer n ≡ Some site → ToMember r.wire outer (Some site) c d → call (Some site) s d (Ok tt) t f
       → (v : Value) × Reads r.wire d f site.table site.place v × (members t ≡ put_member n v (members s))
 
 -- what follows from here on, to the container's end at e
@@ -112,7 +112,7 @@ module _ (r : Reader) (outer : Site) (is_structure : IsStructure (kind_at outer)
         past_unknown c d from (members s) (members u) g.at goes input deep (subst (λ x. Cleared r.wire x from) left.0 cleared) xs chain
         (subst (λ m. members_from m (map entry_of xs) ≡ Some (members u)) left.1 folds)
     one_more (Some site) s t u c d f g goes called input deep (from, cleared, xs, chain, folds) =
-        let took = takes.member goes.names.0 site s t d f goes.names.2 called in
+        let took = takes.member goes.names.0 site s t c d f goes.names.2 goes called in
         past_member site c d f from took.0 (members s) (members u) g.at goes input deep took.1 cleared xs chain
         (subst (λ m. members_from m (map entry_of xs) ≡ Some (members u)) took.2 folds)
 

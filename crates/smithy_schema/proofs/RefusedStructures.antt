@@ -121,7 +121,7 @@ module _ (r : Reader) (outer : Site) (laws : IsLawful r.wire) (is_structure : Is
     goes_on (Some site) s t c d f from xs end goes called input deep cleared chain =
         let child = behind (Some site) c d from xs end goes input deep cleared chain in
         let there = member_value_there site goes.names.0 goes.key child.0 d.at child.2 goes.names.1 goes.names.2 child.3 in
-        let took = takes.member goes.names.0 site s t d f goes.names.2 called in
+        let took = takes.member goes.names.0 site s t c d f goes.names.2 goes called in
         let read = from_cursor (λ x n. r.wire.stands x site.table site.place n d.at took.0 f.at) d (step_input (Some site) c d goes input) (step_depth (Some site) c d goes deep) took.1.stands in
         let ends : child.2 ≡ f.at = laws.same_end i site.table site.place dd d.at there.0 took.0 child.2 f.at there.1 read in (
           f,

@@ -1,6 +1,7 @@
 pub mod Errors
 pub mod Nodes
 pub mod Reading
+pub mod Nulls
 pub mod Containers
 pub mod Passing
 pub mod Sizes

@@ -149,6 +149,10 @@ pub struct Elements<'s, T> {
 impl<'s, T: ReadScalar + Drop> ListConsumer for Elements<'s, T> {
     ghost call = { λ r e c result f d. ReadsElement T.kind T.scalar r (site_of e.element) e.items.items c result f.items.items d × (site_of f.element ≡ site_of e.element) };
 
+    fn takes_nulls(&self) -> bool {
+        true
+    }
+
     fn element<D: ShapeDeserializer>(&mut self, source: &mut D) -> Result<(), SerdeError> {
         let value = T::read_from(source, &self.element)?;
         self.items.push(value)?;

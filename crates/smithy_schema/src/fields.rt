@@ -1,15 +1,12 @@
 //! Structures that a type keeps as fields, an optional value for each member.
 ghost use Rattle.std.specs.Prelude.{◌≡◌, List, Option, option_map, false, OnOk, string_bytes};
-ghost use Rattle.smithy_declarations.specs.Table.{HasMembers};
 ghost use Rattle.smithy_declarations.specs.Value.{Value, scalar_value, list, values_of};
-ghost use Rattle.smithy_shapes.specs.Site.{site_of, kind_at, member_of, element_of};
-ghost use Rattle.smithy_schema.specs.Reading.{in_structure};
-ghost use Rattle.smithy_schema.specs.Consuming.{IsTaken, ReadsEntries, by_member};
+ghost use Rattle.smithy_shapes.specs.Site.{site_of, member_of, element_of};
+ghost use Rattle.smithy_schema.specs.Consuming.{IsTaken};
 ghost use Rattle.smithy_schema.specs.Writing.{open_structure, open_list, events, element_events, member_events};
 ghost use Rattle.smithy_schema.specs.Written.{Runs, IsInside, AddsInside};
 ghost use Rattle.smithy_schema.specs.Fields.{FillsField, field_events, members_at, structure_with, structures_with};
 
-use crate::consume::StructConsumer;
 use crate::elements::ReadScalar;
 use crate::error::SerdeError;
 use crate::read::ShapeDeserializer;
@@ -18,26 +15,8 @@ use crate::written::{SerializableStruct, WriteElements};
 use smithy_shapes::Schema;
 use smithy_types::{Blob, DateTime};
 
-/// Reads the structure or the union that is due by `read_struct`, where a null of a member is as good as not there: it is dropped, also
-/// where the codec hands it on. Whatever the consumer reads by this reader is read so. Only where a document is due, JSON has a null.
-pub fn read_fields<C: StructConsumer, D: ShapeDeserializer>(
-    source: &mut D,
-    schema: &Schema<'_>,
-    consumer: &mut C,
-) -> Result<(), SerdeError>
-    requires place { HasMembers (kind_at (site_of schema.now)) }
-    requires allowed { C.can_take consumer.old (site_of schema.now) }
-    ensures same { D.settings source.new ≡ D.settings source.old }
-    ensures reads { let r = D.reading (D.with_nulls false (D.settings source.old)) in ReadsEntries r (site_of schema.now) in_structure (by_member r (site_of schema.now)) (C.call r) consumer.old (D.state source.old) result consumer.new (D.state source.new) }
-    ensures allowed { OnOk result (C.can_take consumer.new (site_of schema.now)) }
-{
-    let dispatched = source.dispatch_null_members(false);
-    let result = source.read_struct(schema, consumer);
-    source.dispatch_null_members(dispatched);
-    result
-}
-
-/// Reads the scalar that is due into the field of its member.
+/// Reads the scalar that is due into the field of its member. A null is as good as a member that isn't there: it is skipped, and the
+/// field stays as it was.
 pub fn read_field<T: ReadScalar + Drop, D: ShapeDeserializer>(
     source: &mut D,
     member: &Schema<'_>,
@@ -47,6 +26,9 @@ pub fn read_field<T: ReadScalar + Drop, D: ShapeDeserializer>(
     ensures fills { FillsField T.kind T.scalar (D.reading (D.settings source.old)) (site_of member.now) field.old (D.state source.old) result field.new (D.state source.new) }
     ensures takes { OnOk result (IsTaken (D.state source.old) (D.state source.new)) }
 {
+    if source.is_null() {
+        return source.read_null();
+    }
     let value = T::read_from(source, member)?;
     *field = Some(value);
     Ok(())

@@ -5,6 +5,7 @@ mod accept;
 mod borrow;
 mod consume;
 mod elements;
+mod entries;
 mod error;
 mod fields;
 mod pieces;
@@ -23,8 +24,7 @@ pub use consume::{ListConsumer, MapConsumer, StructConsumer};
 pub use elements::{Elements, ReadScalar};
 pub use error::SerdeError;
 pub use fields::{
-    WriteFields, WriteMember, Written, WrittenList, read_field, read_fields, write_field,
-    write_structure,
+    WriteFields, WriteMember, Written, WrittenList, read_field, write_field, write_structure,
 };
 pub use pieces::{BytesPiece, PieceDeserializer, TextPiece};
 pub use read::ShapeDeserializer;

@@ -9,6 +9,7 @@ ghost use Rattle.smithy_declarations.specs.Value.{boolean, whole, text, bytes, d
 ghost use Rattle.smithy_shapes.specs.Site.{site_of, kind_at};
 ghost use Rattle.smithy_schema.specs.Containers.{Opens, GoesOnInStructure, GoesOnInList, GoesOnInMap};
 ghost use Rattle.smithy_schema.specs.Passing.{ReadsNull, SkipsValue};
+ghost use Rattle.smithy_schema.specs.Nulls.{DropsNulls, settings_for};
 ghost use Rattle.smithy_schema.specs.Reading.{ReadsScalar, ReadsDocument, AnswersWide, AnswersUncarried, Cursor, Reader, IsLawful, StandsFit, CountsOpeners, IsBelow, null_is_due, failed_at, in_structure, in_list, in_map};
 ghost use Rattle.smithy_schema.specs.declared.error.SerdeError.TheVariants.{NoMemory};
 ghost use Rattle.smithy_schema.specs.Consuming.{ReadsEntries, by_member, by_element, by_key};
@@ -18,6 +19,7 @@ ghost use Rattle.smithy_schema.specs.TextMaps.{ReadsTexts, entries_of};
 
 use crate::consume::{ListConsumer, MapConsumer, StructConsumer};
 use crate::elements::read_elements;
+use crate::entries::{each_element, each_entry, each_member};
 use crate::error::SerdeError;
 use crate::step::Step;
 use crate::text_maps::read_texts;
@@ -200,7 +202,8 @@ pub trait ShapeDeserializer {
         ensures same { settings self.new ≡ settings self.old }
         ensures read { ReadsDocument (reading (settings self.old)) (state self.old) (state self.new) (site_of schema.now) result };
 
-    /// Reads the structure or the union that is due: the consumer is called for each entry, in order.
+    /// Reads the structure or the union that is due: the consumer is called for each entry, in order. Where it takes no nulls of members,
+    /// they are dropped for the time of the call, even if the codec was asked for them.
     final fn read_struct<C: StructConsumer>(
         &mut self,
         schema: &Schema<'_>,
@@ -211,23 +214,20 @@ pub trait ShapeDeserializer {
         requires place { HasMembers (kind_at (site_of schema.now)) }
         requires allowed { C.can_take consumer.old (site_of schema.now) }
         ensures same { settings self.new ≡ settings self.old }
-        ensures reads { let r = reading (settings self.old) in ReadsEntries r (site_of schema.now) in_structure (by_member r (site_of schema.now)) (C.call r) consumer.old (state self.old) result consumer.new (state self.new) }
+        ensures reads { let r = reading (settings_for with_nulls C.takes_nulls (settings self.old)) in ReadsEntries r (site_of schema.now) in_structure (by_member r (site_of schema.now)) (C.call r) consumer.old (state self.old) result consumer.new (state self.new) }
         ensures allowed { OnOk result (C.can_take consumer.new (site_of schema.now)) }
     {
-        self.open_struct(schema)?;
-        'members: loop {
-            let step = self.next_member(schema)?;
-            if let Step::End = step {
-                return Ok(());
-            }
-            if let Err(error) = consumer.member(step.member(), self) {
-                self.fail();
-                return Err(error);
-            }
+        if consumer.takes_nulls() {
+            return each_member(self, schema, consumer);
         }
+        let dispatched = self.dispatch_null_members(false);
+        let result = each_member(self, schema, consumer);
+        self.dispatch_null_members(dispatched);
+        result
     }
 
-    /// Reads the list that is due: the consumer is called for each element, in order.
+    /// Reads the list that is due: the consumer is called for each element, in order. Nulls of members inside of it come to the consumer
+    /// as by `read_struct`.
     final fn read_list<C: ListConsumer>(
         &mut self,
         schema: &Schema<'_>,
@@ -237,19 +237,19 @@ pub trait ShapeDeserializer {
         Self: Sized,
         requires place { IsList (kind_at (site_of schema.now)) }
         ensures same { settings self.new ≡ settings self.old }
-        ensures reads { let r = reading (settings self.old) in ReadsEntries r (site_of schema.now) in_list (by_element r (site_of schema.now)) (λ element. C.call r) consumer.old (state self.old) result consumer.new (state self.new) }
+        ensures reads { let r = reading (settings_for with_nulls C.takes_nulls (settings self.old)) in ReadsEntries r (site_of schema.now) in_list (by_element r (site_of schema.now)) (λ element. C.call r) consumer.old (state self.old) result consumer.new (state self.new) }
     {
-        self.open_list(schema)?;
-        while self.next_element()? {
-            if let Err(error) = consumer.element(self) {
-                self.fail();
-                return Err(error);
-            }
+        if consumer.takes_nulls() {
+            return each_element(self, schema, consumer);
         }
-        Ok(())
+        let dispatched = self.dispatch_null_members(false);
+        let result = each_element(self, schema, consumer);
+        self.dispatch_null_members(dispatched);
+        result
     }
 
-    /// Reads the map that is due: the consumer is called for each entry, in order.
+    /// Reads the map that is due: the consumer is called for each entry, in order. Nulls of members inside of it come to the consumer as
+    /// by `read_struct`.
     final fn read_map<C: MapConsumer>(
         &mut self,
         schema: &Schema<'_>,
@@ -259,16 +259,15 @@ pub trait ShapeDeserializer {
         Self: Sized,
         requires place { IsMap (kind_at (site_of schema.now)) }
         ensures same { settings self.new ≡ settings self.old }
-        ensures reads { let r = reading (settings self.old) in ReadsEntries r (site_of schema.now) in_map (by_key r (site_of schema.now)) (C.call r) consumer.old (state self.old) result consumer.new (state self.new) }
+        ensures reads { let r = reading (settings_for with_nulls C.takes_nulls (settings self.old)) in ReadsEntries r (site_of schema.now) in_map (by_key r (site_of schema.now)) (C.call r) consumer.old (state self.old) result consumer.new (state self.new) }
     {
-        self.open_map(schema)?;
-        while let Some(key) = self.next_key()? {
-            if let Err(error) = consumer.entry(key, self) {
-                self.fail();
-                return Err(error);
-            }
+        if consumer.takes_nulls() {
+            return each_entry(self, schema, consumer);
         }
-        Ok(())
+        let dispatched = self.dispatch_null_members(false);
+        let result = each_entry(self, schema, consumer);
+        self.dispatch_null_members(dispatched);
+        result
     }
 
     /// Reads a list of texts, as `read_list` with `read_string` for each element.
@@ -329,8 +328,15 @@ pub trait ShapeDeserializer {
         read_texts(self, schema)
     }
 
-    // What held before can be set back.
+    // Settings hold what was set last of nulls, and nothing is lost by setting it.
+    ghost sets: { (c : Settings) (value : Bool) → dispatches_nulls (with_nulls value c) ≡ value };
+
     ghost sets_back: { (c : Settings) (value : Bool) → with_nulls (dispatches_nulls c) (with_nulls value c) ≡ c };
+
+    ghost stays_set: { (c : Settings) (value : Bool) → dispatches_nulls c ≡ value → with_nulls value c ≡ c };
+
+    // A null that isn't to be handed on comes to nobody.
+    ghost drops_nulls: { (c : Settings) → DropsNulls (reading (with_nulls false c)).wire };
 
     // Each wire obeys the laws of reading, with its limits and with them lifted.
     ghost lawful: { (c : Settings) → IsLawful (reading c).wire };

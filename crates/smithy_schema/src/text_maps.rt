@@ -22,6 +22,10 @@ pub struct TextEntries<'s> {
 impl<'s> MapConsumer for TextEntries<'s> {
     ghost call = { λ r key e c result f d. ReadsEntry r (site_of e.value) key (text_entries e.entries.entries) c result (text_entries f.entries.entries) d × (site_of f.value ≡ site_of e.value) };
 
+    fn takes_nulls(&self) -> bool {
+        true
+    }
+
     fn entry<D: ShapeDeserializer>(
         &mut self,
         key: String,

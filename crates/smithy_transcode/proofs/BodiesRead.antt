@@ -12,6 +12,7 @@ use Rattle.smithy_transcode.specs.Causes.{IsTooDeep, IsWide, IsUncarried}
 use Rattle.smithy_transcode.specs.ReadBody.{ReadsBody}
 use Rattle.smithy_transcode.specs.Refusal.{IsToldAs}
 use Rattle.smithy_transcode.specs.Transcoding.{SpellNothing, SpellNothingWithoutLimits}
+use Rattle.smithy_transcode.proofs.Counting.{nodes_are_bounded}
 use Rattle.smithy_transcode.proofs.Transcodings.{one_value, spelled_is_small}
 
 pub body_read : {T : Type 0} (view : T → Value) (t : Table) (root : ℕ) (from : Wire) (i : List ℕ) (x : T) → Spells from t root i (view x) → ReadsBody view t root from i (Ok x)
@@ -20,6 +21,7 @@ body_read view t root from i x spelled = record {
   fits = (spelled_is_small from t root i (view x) spelled).0;
   spelled = λ v h. one_value from t root i (view x) v spelled h;
   refused = tt;
+  nodes_are_bounded = nodes_are_bounded from t root i;
   one_value = one_value from t root i;
 }
 
@@ -27,17 +29,17 @@ told : {T : Type 0} (view : T → Value) (t : Table) (root : ℕ) (from : Wire) 
     → (IsFault e → SpellNothing from t root i) → (FindsNone e → SpellNothingWithoutLimits from t root i) → (e ≡ serde.TooDeep → IsTooDeep from t root i) → (e ≡ serde.TooWide → IsWide from t i) → (e ≡ serde.NotCarried → IsUncarried from t i)
     → ReadsBody view t root from i (Err refusal)
 told view t root from i serde.InvalidInput refusal tells nothing free deep wide uncarried =
-    rw tells (record { ok = tt; fits = tt; spelled = λ v h. absurd (nothing tt v h); refused = λ other. (nothing tt, free tt); one_value = one_value from t root i })
+    rw tells (record { ok = tt; fits = tt; spelled = λ v h. absurd (nothing tt v h); refused = λ other. (nothing tt, free tt); nodes_are_bounded = nodes_are_bounded from t root i; one_value = one_value from t root i })
 told view t root from i serde.TypeMismatch refusal tells nothing free deep wide uncarried =
-    rw tells (record { ok = tt; fits = tt; spelled = λ v h. absurd (nothing tt v h); refused = λ other. (nothing tt, free tt); one_value = one_value from t root i })
+    rw tells (record { ok = tt; fits = tt; spelled = λ v h. absurd (nothing tt v h); refused = λ other. (nothing tt, free tt); nodes_are_bounded = nodes_are_bounded from t root i; one_value = one_value from t root i })
 told view t root from i serde.TooDeep refusal tells nothing free deep wide uncarried =
-    rw tells (record { ok = tt; fits = tt; spelled = λ v h. absurd (nothing tt v h); refused = λ other. (nothing tt, deep refl); one_value = one_value from t root i })
+    rw tells (record { ok = tt; fits = tt; spelled = λ v h. absurd (nothing tt v h); refused = λ other. (nothing tt, deep refl); nodes_are_bounded = nodes_are_bounded from t root i; one_value = one_value from t root i })
 told view t root from i serde.TooWide refusal tells nothing free deep wide uncarried =
-    rw tells (record { ok = tt; fits = tt; spelled = λ v h. absurd (nothing tt v h); refused = λ other. (nothing tt, wide refl); one_value = one_value from t root i })
+    rw tells (record { ok = tt; fits = tt; spelled = λ v h. absurd (nothing tt v h); refused = λ other. (nothing tt, wide refl); nodes_are_bounded = nodes_are_bounded from t root i; one_value = one_value from t root i })
 told view t root from i serde.NotCarried refusal tells nothing free deep wide uncarried =
-    rw tells (record { ok = tt; fits = tt; spelled = λ v h. absurd (nothing tt v h); refused = λ other. (nothing tt, uncarried refl); one_value = one_value from t root i })
+    rw tells (record { ok = tt; fits = tt; spelled = λ v h. absurd (nothing tt v h); refused = λ other. (nothing tt, uncarried refl); nodes_are_bounded = nodes_are_bounded from t root i; one_value = one_value from t root i })
 told view t root from i serde.NoMemory refusal tells nothing free deep wide uncarried =
-    rw tells (record { ok = tt; fits = tt; spelled = λ v h. tt; refused = λ other. absurd (other refl); one_value = one_value from t root i })
+    rw tells (record { ok = tt; fits = tt; spelled = λ v h. tt; refused = λ other. absurd (other refl); nodes_are_bounded = nodes_are_bounded from t root i; one_value = one_value from t root i })
 told view t root from i serde.Unsupported refusal tells nothing free deep wide uncarried = absurd tells
 told view t root from i serde.Unwritable refusal tells nothing free deep wide uncarried = absurd tells
 told view t root from i serde.Missing refusal tells nothing free deep wide uncarried = absurd tells

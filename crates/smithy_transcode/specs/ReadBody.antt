@@ -1,8 +1,9 @@
 -- What a read of a whole body promises, for every table, root, wire and input, and every kind of tree.
-use Rattle.std.specs.Prelude.{◌≡◌, ◌≢◌, ℕ, List, Result, Ok, Err, IfOk, IfErr}
+use Rattle.std.specs.Prelude.{◌≡◌, ◌≢◌, ◌≤◌, ◌+◌, ℕ, length, List, Result, Ok, Err, IfOk, IfErr}
 use Rattle.smithy_declarations.specs.Table.{Table, shape_place}
 use Rattle.smithy_declarations.specs.Value.{Value}
 use Rattle.smithy_shapes.specs.Fits.{Fits}
+use Rattle.smithy_schema.specs.Nodes.{nodes}
 use Rattle.smithy_transcode.specs.declared.wire.TranscodeError.{TranscodeError}
 use Rattle.smithy_transcode.specs.declared.wire.TranscodeError.TheVariants.{InvalidInput, TooDeep, TooWide, NotCarried, Inexpressible, NoMemory}
 use Rattle.smithy_transcode.specs.Wires.{Wire}
@@ -37,5 +38,7 @@ pub record ReadsBody {T : Type 0} (view : T → Value) (table : Table) (root : �
   pub spelled : (v : Value) → Spells from table root input v → GivesValue view v answer
   -- each other refusal comes by its cause
   pub refused : IfErr answer (λ e. (e ≢ NoMemory) → IsRefusedFor from table root input e)
-  -- whatever the answer, the input spells at most one value
+  -- whatever the answer, what the input spells has at most one part more than the input has bytes
+  pub nodes_are_bounded : (v : Value) → Spells from table root input v → nodes v ≤ length input + 1
+  -- and it spells at most one value
   pub one_value : (v u : Value) → Spells from table root input v → Spells from table root input u → v ≡ u

@@ -48,7 +48,13 @@ impl<D: ShapeDeserializer> ShapeDeserializer for Borrowing<'_, '_, D> {
 
     ghost with_nulls = { λ value c. (D.with_nulls value c.0, c.1) };
 
+    ghost sets = { λ c. D.sets c.0 };
+
     ghost sets_back = { λ c value. ap (λ (s : D.Settings). (s, c.1)) (D.sets_back c.0 value) };
+
+    ghost stays_set = { λ c value is. ap (λ (s : D.Settings). (s, c.1)) (D.stays_set c.0 value is) };
+
+    ghost drops_nulls = { λ c. D.drops_nulls c.0 };
 
     ghost lawful = { λ c. D.lawful c.0 };
 

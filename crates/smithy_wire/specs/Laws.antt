@@ -1,15 +1,19 @@
 -- The laws of reading, once for all wires and kinds.
-use Rattle.std.specs.Prelude.{◌≡◌, ◌⊎◌, ◌<◌, ◌≤◌, ℕ, zero, suc, nat_lt, length, drop, List, Bool, Option, Some, None, true, false, refl}
+use Rattle.std.specs.Prelude.{◌≡◌, ◌⊎◌, ◌<◌, ◌≤◌, ℕ, zero, suc, nat_lt, length, drop, List, Bool, not, Option, Some, None, true, false, refl}
+use Rattle.std.specs.Option.{option_map_or}
 use Rattle.std.proofs.Common.{sym, ◌∙◌, ap, arith, subst, inl, inr}
 use Rattle.std.proofs.lemmas.Bool.Decides.{nat_tests}
 use Rattle.smithy_declarations.specs.declared.place.Place.{Place}
+use Rattle.smithy_declarations.specs.declared.place.Target.{Target}
+use Rattle.smithy_declarations.specs.declared.place.Target.TheVariants.{Simple, Document, Declared}
 use Rattle.smithy_shapes.specs.Limits.{kept}
-use Rattle.smithy_declarations.specs.Table.{Table, Kind, kind_of, IsStructure, IsDocument}
+use Rattle.smithy_declarations.specs.Table.{Table, Kind, structure_of, union_of, kind_of_target, kind_of, place_in, member_place, is_document_target, is_document_place, HasMembers, IsStructure, IsDocument}
 use Rattle.smithy_declarations.specs.Value.{Value}
 use Rattle.smithy_schema.specs.Reading.{Mark, Child, child_value, child_null, child_unknown, IsChild, IsLawful, StandsFit, CountsOpeners, IsBelow, IsBehind as IsPassed}
 use Rattle.smithy_shapes.specs.Lemmas.Options.{same_some, chosen}
 use Rattle.smithy_wire.specs.Node.{Form, Node, null_node, leaf, container, missing}
-use Rattle.smithy_wire.specs.Rules.{Rules, lift, is_shallow, may_skip}
+use Rattle.smithy_schema.specs.Nulls.{DropsNulls}
+use Rattle.smithy_wire.specs.Rules.{Rules, lift, is_shallow, may_skip, position_in, drops_null}
 use Rattle.smithy_wire.specs.Meaning.{missing_meaning, meaning}
 use Rattle.smithy_wire.specs.Frames.{Frames, Lies, DropsAll, StepsIn, EndsIn, relations}
 use Rattle.smithy_wire.specs.Wire.{no_value, IsBehind, IsWire, BoundsOpeners, RulesFit}
@@ -35,6 +39,15 @@ ahead_or_there i a e P h p = elim (below_or_same a e h.0) [
   | inl less ↦ inl less
   | inr same ↦ inr (same, h.1, p)
 ]
+
+document_due : (t : Table) (target : Target) → is_document_target target ≡ true → IsDocument (kind_of_target t target)
+document_due t Document h = tt
+document_due t (Simple s) h = cc
+document_due t (Declared id) h = cc
+
+not_false : (b : Bool) → not b ≡ false → b ≡ true
+not_false true h = refl
+not_false false h = cc
 
 module _ {L : Type 0} (w : Frames L) (r : Rules L) (wire : IsWire w) where
   ahead : (i : List ℕ) (t : Table) (p : Place) (d a : ℕ) (v : Value) (e : ℕ) (x : Node L) → Lies w i d x a e → meaning r t p d x ≡ Some v
@@ -200,6 +213,19 @@ stands_fit w r wire keeps fits = record {
   fits = λ i t p d a v e h. meaning_fits w r keeps fits i t d h.0 p v a e h.1 h.2;
   counted = stands_has_bytes w r wire keeps fits;
 }
+
+-- where no null is kept but those of documents, a step goes to no other null
+pub drops_nulls : {L : Type 0} (w : Frames L) (r : Rules L) → ((place : Option Place) → r.keeps_null place ≡ true → option_map_or is_document_place place false ≡ true) → DropsNulls (relations w r)
+drops_nulls w r keeps i t p d b m key c n e has (f, is, step) null = by (kind_of t p) has (step.stays e null)
+  where
+    document_at : (place : Option Place) → option_map_or is_document_place place false ≡ true → (q : Place) × (place ≡ Some q) × IsDocument (kind_of t q)
+    document_at None h = cc
+    document_at (Some q) h = (q, refl, document_due t q.target h)
+
+    by : (k : Kind) → HasMembers k → drops_null r k (position_in r k (Some key)) ≡ false → (q : Place) × (place_in k (position_in r k (Some key)) ≡ Some q) × IsDocument (kind_of t q)
+    by (structure_of members) has stays = let place = member_place members (position_in r (structure_of members) (Some key)) in document_at place (keeps place (not_false (r.keeps_null place) stays))
+    by (union_of members) has stays = let place = member_place members (position_in r (union_of members) (Some key)) in document_at place (keeps place (not_false (r.keeps_null place) stays))
+    by _ has stays = absurd has
 
 -- what holds with the limits kept holds with them lifted
 pub lifted_is_above : {L : Type 0} (w : Frames L) (r : Rules L) → IsBelow (relations w r) (relations w (lift r))

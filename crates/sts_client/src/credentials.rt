@@ -1,5 +1,5 @@
 //! The credentials that AssumeRole answers.
-ghost use Rattle.std.specs.Prelude.{◌≡◌, OnOk};
+ghost use Rattle.std.specs.Prelude.{◌≡◌, false, OnOk};
 ghost use Rattle.smithy_schema.specs.Consuming.{IsTaken};
 ghost use Rattle.smithy_shapes.specs.Site.{site_of};
 ghost use Rattle.smithy_schema.specs.Typed.{ReadsDueAs};
@@ -26,12 +26,19 @@ pub struct Credentials {
 }
 
 impl StructConsumer for Credentials {
+    ghost use Rattle.std.specs.Prelude.{false};
     ghost use Rattle.smithy_schema.specs.Fields.{TakesField};
     ghost use Rattle.sts_client.specs.Shapes.{IsCredentials, credentials_fields};
 
     ghost call = { TakesField credentials_fields };
 
     ghost can_take = { λ _ outer. IsCredentials outer };
+
+    ghost takes_nulls = { false };
+
+    fn takes_nulls(&self) -> bool {
+        false
+    }
 
     fn member<D: ShapeDeserializer>(
         &mut self,
@@ -112,8 +119,8 @@ pub fn read_credentials<D: ShapeDeserializer>(
     requires place { IsCredentials (site_of schema.now) }
     ensures same { D.settings source.new ≡ D.settings source.old }
 
-    // What stood there is the structure of these fields, and a fault comes only where no such structure stands.
-    ensures reads { ReadsDueAs (D.reading (D.settings source.old)).wire (D.state source.old) (D.state source.new) (site_of schema.now) (λ keys. structure_with (credentials_fields keys)) result }
+    // What stood there, nulls of members dropped, is the structure of these fields, and a fault comes only where no such structure stands.
+    ensures reads { ReadsDueAs (D.reading (D.with_nulls false (D.settings source.old))).wire (D.state source.old) (D.state source.new) (site_of schema.now) (λ keys. structure_with (credentials_fields keys)) result }
     ensures takes { OnOk result (IsTaken (D.state source.old) (D.state source.new)) }
 {
     let mut keys = Credentials {

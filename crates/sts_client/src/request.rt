@@ -9,7 +9,7 @@ ghost use Rattle.sts_client.specs.Shapes.{IsRequest, request_fields};
 use crate::tags::{Tag, are_tags, read_tags};
 use smithy_schema::{
     Accept, Scalar, Schema, SerdeError, ShapeDeserializer, ShapeSerializer, ShapeType,
-    StructConsumer, Target, WriteFields, Written, read_field, read_fields, write_field,
+    StructConsumer, Target, WriteFields, Written, read_field, write_field,
 };
 
 /// A role to take on for a while.
@@ -28,12 +28,19 @@ pub struct AssumeRoleRequest {
 }
 
 impl StructConsumer for AssumeRoleRequest {
+    ghost use Rattle.std.specs.Prelude.{false};
     ghost use Rattle.smithy_schema.specs.Fields.{TakesField};
     ghost use Rattle.sts_client.specs.Shapes.{request_fields, IsRequest};
 
     ghost call = { TakesField request_fields };
 
     ghost can_take = { λ _ outer. IsRequest outer };
+
+    ghost takes_nulls = { false };
+
+    fn takes_nulls(&self) -> bool {
+        false
+    }
 
     fn member<D: ShapeDeserializer>(
         &mut self,
@@ -121,7 +128,7 @@ pub fn read_request<D: ShapeDeserializer>(
         duration_seconds: None,
         tags: None,
     };
-    read_fields(source, schema, &mut request)?;
+    source.read_struct(schema, &mut request)?;
     Ok(request)
 }
 

@@ -10,8 +10,8 @@ ghost use Rattle.sts_client.specs.Shapes.{IsUser, user_fields, IsResponse, respo
 use crate::credentials::{Credentials, read_credentials};
 use smithy_schema::{
     Accept, Scalar, Schema, SerdeError, ShapeDeserializer, ShapeSerializer, ShapeType,
-    StructConsumer, Target, WriteFields, WriteMember, Written, read_field, read_fields,
-    write_field, write_structure,
+    StructConsumer, Target, WriteFields, WriteMember, Written, read_field, write_field,
+    write_structure,
 };
 
 /// Who takes on the role.
@@ -24,12 +24,19 @@ pub struct AssumedRoleUser {
 }
 
 impl StructConsumer for AssumedRoleUser {
+    ghost use Rattle.std.specs.Prelude.{false};
     ghost use Rattle.smithy_schema.specs.Fields.{TakesField};
     ghost use Rattle.sts_client.specs.Shapes.{IsUser, user_fields};
 
     ghost call = { TakesField user_fields };
 
     ghost can_take = { λ _ outer. IsUser outer };
+
+    ghost takes_nulls = { false };
+
+    fn takes_nulls(&self) -> bool {
+        false
+    }
 
     fn member<D: ShapeDeserializer>(
         &mut self,
@@ -98,7 +105,7 @@ fn read_user<D: ShapeDeserializer>(
 ) -> Result<AssumedRoleUser, SerdeError>
     requires place { IsUser (site_of schema.now) }
     ensures same { D.settings source.new ≡ D.settings source.old }
-    ensures reads { ReadsDueAs (D.reading (D.settings source.old)).wire (D.state source.old) (D.state source.new) (site_of schema.now) (λ user. structure_with (user_fields user)) result }
+    ensures reads { ReadsDueAs (D.reading (D.with_nulls false (D.settings source.old))).wire (D.state source.old) (D.state source.new) (site_of schema.now) (λ user. structure_with (user_fields user)) result }
     ensures takes { OnOk result (IsTaken (D.state source.old) (D.state source.new)) }
 {
     let mut user = AssumedRoleUser {
@@ -123,12 +130,19 @@ pub struct AssumeRoleResponse {
 }
 
 impl StructConsumer for AssumeRoleResponse {
+    ghost use Rattle.std.specs.Prelude.{false};
     ghost use Rattle.smithy_schema.specs.Fields.{TakesField};
     ghost use Rattle.sts_client.specs.Shapes.{response_fields, IsResponse};
 
     ghost call = { TakesField response_fields };
 
     ghost can_take = { λ _ outer. IsResponse outer };
+
+    ghost takes_nulls = { false };
+
+    fn takes_nulls(&self) -> bool {
+        false
+    }
 
     fn member<D: ShapeDeserializer>(
         &mut self,
@@ -210,7 +224,7 @@ pub fn read_response<D: ShapeDeserializer>(
         packed_policy_size: None,
         source_identity: None,
     };
-    read_fields(source, schema, &mut response)?;
+    source.read_struct(schema, &mut response)?;
     Ok(response)
 }
 

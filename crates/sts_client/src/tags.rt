@@ -1,5 +1,5 @@
 //! The tags of a session, which AssumeRole is given.
-ghost use Rattle.std.specs.Prelude.{◌≡◌, ◌↔◌, IsTrue, OnOk};
+ghost use Rattle.std.specs.Prelude.{◌≡◌, ◌↔◌, false, IsTrue, OnOk};
 ghost use Rattle.smithy_schema.specs.Consuming.{IsTaken};
 ghost use Rattle.smithy_declarations.specs.Value.{list, values_of};
 ghost use Rattle.smithy_shapes.specs.Site.{site_of};
@@ -22,12 +22,19 @@ pub struct Tag {
 }
 
 impl StructConsumer for Tag {
+    ghost use Rattle.std.specs.Prelude.{false};
     ghost use Rattle.smithy_schema.specs.Fields.{TakesField};
     ghost use Rattle.sts_client.specs.Shapes.{IsTag, tag_fields};
 
     ghost call = { TakesField tag_fields };
 
     ghost can_take = { λ _ outer. IsTag outer };
+
+    ghost takes_nulls = { false };
+
+    fn takes_nulls(&self) -> bool {
+        false
+    }
 
     fn member<D: ShapeDeserializer>(
         &mut self,
@@ -84,9 +91,16 @@ struct Tags<'s> {
 }
 
 impl<'s> ListConsumer for Tags<'s> {
+    ghost use Rattle.std.specs.Prelude.{false};
     ghost use Rattle.sts_client.specs.Shapes.{TakesTag};
 
     ghost call = { λ r e c result f d. TakesTag r (site_of e.shape) e.tags.items c result f.tags.items d × (site_of f.shape ≡ site_of e.shape) };
+
+    ghost takes_nulls = { false };
+
+    fn takes_nulls(&self) -> bool {
+        false
+    }
 
     fn element<D: ShapeDeserializer>(&mut self, source: &mut D) -> Result<(), SerdeError> {
         let mut tag = Tag {
@@ -121,8 +135,8 @@ pub fn read_tags<D: ShapeDeserializer>(
     requires place { AreTags (site_of schema.now) }
     ensures same { D.settings source.new ≡ D.settings source.old }
 
-    // What stood there is the list of these tags, and a fault comes only where no such list stands.
-    ensures reads { ReadsDueAs (D.reading (D.settings source.old)).wire (D.state source.old) (D.state source.new) (site_of schema.now) (λ tags. list (values_of (tag_values tags.items))) result }
+    // What stood there, nulls of members dropped, is the list of these tags, and a fault comes only where no such list stands.
+    ensures reads { ReadsDueAs (D.reading (D.with_nulls false (D.settings source.old))).wire (D.state source.old) (D.state source.new) (site_of schema.now) (λ tags. list (values_of (tag_values tags.items))) result }
     ensures takes { OnOk result (IsTaken (D.state source.old) (D.state source.new)) }
 {
     let Some(shape) = schema.member() else {

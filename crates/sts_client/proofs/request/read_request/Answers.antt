@@ -7,21 +7,21 @@ use Rattle.smithy_schema.proofs.TypedReads.{structure_reads, structure_fails}
 use Rattle.sts_client.specs.Shapes.{request_fields}
 use Rattle.sts_client.proofs.request.read_request.Goals as goal
 
-pub read_fields-requires : goal.read_fields-requires
-read_fields-requires g c = record {
+pub read_struct-requires : goal.read_struct-requires
+read_struct-requires g c = record {
   place = structure_has_members (kind_at (site_of c.args.schema.now)) (has_structure _ _ c.requires.place.members);
   allowed = c.requires.place;
 }
 
 pub returns-clause-reads : goal.returns-clause-reads
 returns-clause-reads g c =
-    structure_reads request_fields _ (site_of c.args.schema.now) (g.met.D.ShapeDeserializer.lawful _) (has_structure _ _ c.requires.place.members) _ _ _ _ refl c.in_ok-read_fields.ensures.reads.consumes c.in_ok-read_fields.ensures.reads.takes
+    structure_reads request_fields _ (site_of c.args.schema.now) (g.met.D.ShapeDeserializer.lawful _) (g.met.D.ShapeDeserializer.drops_nulls (g.D.ShapeDeserializer.settings c.args.source.now)) (has_structure _ _ c.requires.place.members) _ _ _ _ refl c.in_ok-read_struct.ensures.reads.consumes c.in_ok-read_struct.ensures.reads.takes
 
-pub returns-in_err-read_fields-clause-reads : goal.returns-in_err-read_fields-clause-reads
-returns-in_err-read_fields-clause-reads g c =
+pub returns-in_err-read_struct-clause-reads : goal.returns-in_err-read_struct-clause-reads
+returns-in_err-read_struct-clause-reads g c =
     let p = err_from_is_err_and c.from_residual.result c.from_residual.ensures.1 in
     let d = g.D.ShapeDeserializer in
     let s = d.with_nulls false (d.settings c.args.source.now) in
     rw (p.1, p.2)
-    (structure_fails request_fields (d.reading s) (site_of c.args.schema.now) (g.met.D.ShapeDeserializer.lawful s) (has_structure _ _ c.requires.place.members)
-    _ _ _ _ c.in_err-read_fields.field-0.0 c.in_err-read_fields.ensures.reads.consumes c.in_err-read_fields.ensures.reads.fails)
+    (structure_fails request_fields (d.reading s) (site_of c.args.schema.now) (g.met.D.ShapeDeserializer.lawful s) (g.met.D.ShapeDeserializer.drops_nulls (d.settings c.args.source.now)) (has_structure _ _ c.requires.place.members)
+    _ _ _ _ c.in_err-read_struct.field-0.0 c.in_err-read_struct.ensures.reads.consumes c.in_err-read_struct.ensures.reads.fails)

@@ -14,7 +14,7 @@ invariant_of-tags g c = record { is_tag = subst IsTag (same_some _ _ (sym c.requ
 pub returns-clause-reads : goal.returns-clause-reads
 returns-clause-reads g c =
     let d = g.D.ShapeDeserializer in
-    let s = d.settings c.args.source.now in
+    let s = d.with_nulls false (d.settings c.args.source.now) in
     let r = d.reading s in
     let outer = site_of c.args.schema.now in
     let inner = site_of c.in-Some.shape in
@@ -31,7 +31,7 @@ pub returns-in_err-read_list-clause-reads : goal.returns-in_err-read_list-clause
 returns-in_err-read_list-clause-reads g c =
     let p = err_from_is_err_and c.from_residual.result c.from_residual.ensures.1 in
     let d = g.D.ShapeDeserializer in
-    let s = d.settings c.args.source.now in
+    let s = d.with_nulls false (d.settings c.args.source.now) in
     let r = d.reading s in
     let outer = site_of c.args.schema.now in
     let inner = site_of c.in-Some.shape in

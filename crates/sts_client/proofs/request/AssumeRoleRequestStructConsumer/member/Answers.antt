@@ -1,4 +1,4 @@
-use Rattle.std.proofs.Common.{◌≡◌, ◌≢◌, arith, rules, refl, sym, ◌∙◌, subst, Some, string_bytes}
+use Rattle.std.proofs.Common.{◌≡◌, ◌≢◌, arith, rules, refl, sym, ◌∙◌, subst, Some, false, string_bytes}
 use Rattle.std.proofs.lemmas.Result.{err_from_is_err_and}
 use Rattle.smithy_declarations.specs.declared.shape_type.Scalar.TheVariants as scalars
 use Rattle.smithy_declarations.specs.declared.place.Target.TheVariants.{Simple}
@@ -62,7 +62,8 @@ read_tags-requires g c =
 pub returns-in_err-tags-clause-called : goal.returns-in_err-tags-clause-called
 returns-in_err-tags-clause-called g c =
     let p = err_from_is_err_and c.from_residual.result c.from_residual.ensures.1 in
-    rw (p.1, p.2, c.in-Some.is) (broke (may_answer _ _ _ c.in_err-tags.ensures.reads.fails) c.in_err-tags.ensures.reads.refused)
+    let same = g.met.D.ShapeDeserializer.stays_set (g.D.ShapeDeserializer.settings c.args.source.now) false (c.requires.nulls refl) in
+    rw (p.1, p.2, c.in-Some.is) (broke (may_answer _ _ _ c.in_err-tags.ensures.reads.fails) (rw same at c.in_err-tags.ensures.reads.refused))
 
 pub returns-clause-called : goal.returns-clause-called
 returns-clause-called g c =
@@ -74,4 +75,5 @@ returns-clause-called g c =
     let not_3 : site.view.index ≢ Some 3 = search rules in
     let index = at_last IsRequest site allowed 4 (λ o is. count_of _ _ o is.members) (not_3, (not_2, (not_1, (not_0, tt)))) in
     let there = at_index IsRequest site allowed 4 index in
-    rw c.in-Some.is (field_taken request_fields _ site _ _ _ _ 4 (list (values_of (tag_values c.in_ok-tags.tags.items))) index (omega arith) refl c.in_ok-tags.ensures.reads.ok)
+    let same = g.met.D.ShapeDeserializer.stays_set (g.D.ShapeDeserializer.settings c.args.source.now) false (c.requires.nulls refl) in
+    rw c.in-Some.is (field_taken request_fields _ site _ _ _ _ 4 (list (values_of (tag_values c.in_ok-tags.tags.items))) index (omega arith) refl (rw same at c.in_ok-tags.ensures.reads.ok))

@@ -1,4 +1,4 @@
-use Rattle.std.proofs.Common.{◌≡◌, ◌≢◌, arith, rules, refl, sym, ◌∙◌, subst, Some, string_bytes}
+use Rattle.std.proofs.Common.{◌≡◌, ◌≢◌, arith, rules, refl, sym, ◌∙◌, subst, Some, false, string_bytes}
 use Rattle.std.proofs.lemmas.Result.{err_from_is_err_and}
 use Rattle.smithy_declarations.specs.declared.shape_type.Scalar.TheVariants as scalars
 use Rattle.smithy_declarations.specs.declared.place.Target.TheVariants.{Simple}
@@ -26,7 +26,8 @@ read_credentials-requires g c =
 pub returns-in_err-read_credentials-clause-called : goal.returns-in_err-read_credentials-clause-called
 returns-in_err-read_credentials-clause-called g c =
     let p = err_from_is_err_and c.from_residual.result c.from_residual.ensures.1 in
-    rw (p.1, p.2, c.in-Some.is) (broke (may_answer _ _ _ c.in_err-read_credentials.ensures.reads.fails) c.in_err-read_credentials.ensures.reads.refused)
+    let same = g.met.D.ShapeDeserializer.stays_set (g.D.ShapeDeserializer.settings c.args.source.now) false (c.requires.nulls refl) in
+    rw (p.1, p.2, c.in-Some.is) (broke (may_answer _ _ _ c.in_err-read_credentials.ensures.reads.fails) (rw same at c.in_err-read_credentials.ensures.reads.refused))
 
 pub returns-then-eq-clause-called : goal.returns-then-eq-clause-called
 returns-then-eq-clause-called g c =
@@ -34,7 +35,8 @@ returns-then-eq-clause-called g c =
     let allowed = rw c.in-Some.is at c.requires.allowed in
     let index : site.view.index ≡ Some 0 = search rules in
     let there = at_index IsResponse site allowed 0 index in
-    rw c.in-Some.is (field_taken response_fields _ site _ _ _ _ 0 (structure_with (credentials_fields c.in_ok-read_credentials.field-0)) index (omega arith) refl c.in_ok-read_credentials.ensures.reads.ok)
+    let same = g.met.D.ShapeDeserializer.stays_set (g.D.ShapeDeserializer.settings c.args.source.now) false (c.requires.nulls refl) in
+    rw c.in-Some.is (field_taken response_fields _ site _ _ _ _ 0 (structure_with (credentials_fields c.in_ok-read_credentials.field-0)) index (omega arith) refl (rw same at c.in_ok-read_credentials.ensures.reads.ok))
 
 pub read_user-requires : goal.read_user-requires
 read_user-requires g c =
@@ -47,7 +49,8 @@ read_user-requires g c =
 pub returns-in_err-read_user-clause-called : goal.returns-in_err-read_user-clause-called
 returns-in_err-read_user-clause-called g c =
     let p = err_from_is_err_and c.from_residual-in_err-read_user.result c.from_residual-in_err-read_user.ensures.1 in
-    rw (p.1, p.2, c.in-Some.is) (broke (may_answer _ _ _ c.in_err-read_user.ensures.reads.fails) c.in_err-read_user.ensures.reads.refused)
+    let same = g.met.D.ShapeDeserializer.stays_set (g.D.ShapeDeserializer.settings c.args.source.now) false (c.requires.nulls refl) in
+    rw (p.1, p.2, c.in-Some.is) (broke (may_answer _ _ _ c.in_err-read_user.ensures.reads.fails) (rw same at c.in_err-read_user.ensures.reads.refused))
 
 pub returns-then-eq-2-clause-called : goal.returns-then-eq-2-clause-called
 returns-then-eq-2-clause-called g c =
@@ -55,7 +58,8 @@ returns-then-eq-2-clause-called g c =
     let allowed = rw c.in-Some.is at c.requires.allowed in
     let index : site.view.index ≡ Some 1 = search rules in
     let there = at_index IsResponse site allowed 1 index in
-    rw c.in-Some.is (field_taken response_fields _ site _ _ _ _ 1 (structure_with (user_fields c.in_ok-read_user.field-0)) index (omega arith) refl c.in_ok-read_user.ensures.reads.ok)
+    let same = g.met.D.ShapeDeserializer.stays_set (g.D.ShapeDeserializer.settings c.args.source.now) false (c.requires.nulls refl) in
+    rw c.in-Some.is (field_taken response_fields _ site _ _ _ _ 1 (structure_with (user_fields c.in_ok-read_user.field-0)) index (omega arith) refl (rw same at c.in_ok-read_user.ensures.reads.ok))
 
 pub returns-then-eq-3-clause-called : goal.returns-then-eq-3-clause-called
 returns-then-eq-3-clause-called g c =
