@@ -6,13 +6,13 @@ a line of base64. Where a body is refused, its line is `!` and the number of the
 standard error how many bodies a second it did.
 """
 import base64
-import binascii
 import itertools
 import multiprocessing
 import sys
 import time
 
 import smithy_transcode as st
+from smithy_transcode.parts import decoded
 
 SOURCES = {it.name: it for it in (st.JSON, st.JSON_NAME, st.CBOR, st.JSON_INTEGRAL, st.JSON_NAME_INTEGRAL)}
 TARGETS = {it.name: it for it in (st.JSON, st.JSON_NAME, st.CBOR, st.CBOR_DEFINITE)}
@@ -24,14 +24,6 @@ def begin(text, root, source, target):
     """Accepts the table, once in each process."""
     global transcoder
     transcoder = st.Table(text).transcoder(root, SOURCES[source], TARGETS[target]), source == "cbor", target.startswith("cbor")
-
-
-def decoded(line):
-    """The body of a line of base64; of another line a lone break, which no CBOR begins with, so it is refused with 10."""
-    try:
-        return base64.b64decode(line, validate=True)
-    except binascii.Error:
-        return b"\xff"
 
 
 def answers(lines):

@@ -1,9 +1,13 @@
 """Calls each part of the package smithy_transcode: `python3 -m unittest` in this folder."""
 
+import os
+import pickle
+import tempfile
 import threading
 import unittest
 
 import smithy_transcode as st
+from smithy_transcode.parts import Task, parts_of
 
 TEXT = b"structure S\nmember a integer\nmember l L\nmember t timestamp\nmember x document\nlist L string sparse\n"
 
@@ -64,6 +68,31 @@ class Bodies(unittest.TestCase):
         self.assertEqual(to_json.each(iter(long)), long)
         with self.assertRaises(st.NoSuchShape):
             self.table.transcoder("Q", st.JSON, st.JSON).each([b"{}"])
+
+    def test_pickled_refusals(self):
+        """Processes give each other refusals as values."""
+        refusal = self.table.transcoder("S", st.JSON, st.JSON).each([b"{"])[0]
+        copy = pickle.loads(pickle.dumps(refusal))
+        self.assertEqual((type(copy), copy.status, str(copy)), (st.InvalidInput, 10, "invalid input"))
+
+    def test_parts(self):
+        """Parts of every size have each line once, and their answers are those of the whole file."""
+        lines = [b'{"a":1}', b"", b"{", b'{"l":["' + b"x" * 50 + b'"]}', b'{ "a":2}']
+        task = Task(TEXT, "S", st.JSON, st.CBOR)
+        with tempfile.TemporaryDirectory() as room:
+            path, to = os.path.join(room, "bodies"), os.path.join(room, "answers")
+            for ending in (b"", b"\n"):
+                with open(path, "wb") as file:
+                    file.write(b"\n".join(lines) + ending)
+                for size in range(1, 100):
+                    answers, refused = [], 0
+                    for part in parts_of(path, size):
+                        refused += task.convert(part, to).refused
+                        with open(to, "rb") as file:
+                            answers += file.read().splitlines()
+                    self.assertEqual(answers, [b"v2FhAf8=", b"v/8=", b"invalid input", answers[3], b"v2FhAv8="])
+                    self.assertEqual((refused, len(answers[3])), (1, 80))
+            self.assertEqual(sorted(os.listdir(room)), ["answers", "bodies"])
 
     def test_a_closed_table(self):
         to_json = self.table.transcoder("S", st.JSON, st.JSON)

@@ -81,8 +81,11 @@ class Refused(Exception):
 
     def __init__(self, status: int, message: str):
         """status: the number that the program would end with. message: the line that it would write."""
-        super().__init__(message)
+        super().__init__(status, message)
         self.status = status
+
+    def __str__(self) -> str:
+        return self.args[1]
 
 
 class InvalidInput(Refused):

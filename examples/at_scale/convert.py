@@ -1,0 +1,43 @@
+#!/usr/bin/env python3
+"""Converts a file with a body on each line by dask.distributed.
+
+    convert.py WORKERS TABLE ROOT FROM TO FILE FOLDER
+
+WORKERS is how many processes of this machine do it, or the address of a scheduler, such as tcp://host:8786. FROM is json, json-name,
+json-integral, json-name-integral or cbor, and TO is json, json-name, cbor or cbor-definite. The answers to each part of the file become a
+file in FOLDER, and `cat FOLDER/*` has them in order. Workers elsewhere read and write the same file system.
+"""
+import os
+import sys
+import time
+
+import smithy_transcode as st
+from dask.distributed import Client, LocalCluster
+from smithy_transcode.parts import Task, parts_of
+
+SOURCES = {it.name: it for it in (st.JSON, st.JSON_NAME, st.JSON_INTEGRAL, st.JSON_NAME_INTEGRAL, st.CBOR)}
+TARGETS = {it.name: it for it in (st.JSON, st.JSON_NAME, st.CBOR, st.CBOR_DEFINITE)}
+
+
+def convert(client, task, parts, folder):
+    """The counts of each part, once all are there."""
+    os.makedirs(folder, exist_ok=True)
+    folder = os.path.abspath(folder)
+    return client.gather([client.submit(task.convert, part, f"{folder}/{number:06}", pure=False) for number, part in enumerate(parts)])
+
+
+def main():
+    workers, table, root, source, target, file, folder = sys.argv[1:]
+    with open(table, "rb") as text:
+        task = Task(text.read(), root, SOURCES[source], TARGETS[target])
+    cluster = LocalCluster(n_workers=int(workers), threads_per_worker=1, dashboard_address=None) if workers.isdigit() else workers
+    with Client(cluster) as client:
+        begun = time.monotonic()
+        counts = convert(client, task, parts_of(os.path.abspath(file)), folder)
+        passed = time.monotonic() - begun
+    bodies = sum(it.bodies for it in counts)
+    print(f"{bodies} bodies, {sum(it.refused for it in counts)} refused, {bodies / passed:.0f} a second")
+
+
+if __name__ == "__main__":
+    main()
