@@ -1,0 +1,15 @@
+pub mod Law
+pub mod Clean
+pub mod Whole
+pub mod Docs
+pub mod Tables
+pub mod Entries
+pub mod JsonNodes
+pub mod JsonScalars
+pub mod CborOpenings
+pub mod CborEnds
+pub mod CborBodies
+pub mod CborClean
+pub mod JsonDepth
+pub mod JsonTexts
+pub mod Lintings
