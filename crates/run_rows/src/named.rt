@@ -38,6 +38,11 @@ fn plain_status(name: &str) -> Option<Status> {
         "TooLong" => Some(Status::TooLong),
         "Differs" => Some(Status::Differs),
         "LinesRefused" => Some(Status::LinesRefused),
+        "FindingsTold" => Some(Status::FindingsTold),
+        "NotWellFormed" => Some(Status::NotWellFormed),
+        "TooNested" => Some(Status::TooNested),
+        "NotForm" => Some(Status::NotForm),
+        "NoValue" => Some(Status::NoValue),
         _ => None,
     }
 }

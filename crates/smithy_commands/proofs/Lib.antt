@@ -5,4 +5,5 @@ mod GenLemmas
 mod CompareLemmas
 mod LinesLemmas
 mod ReplayLemmas
+mod LintLemmas
 mod RunLemmas

@@ -5,7 +5,7 @@ use Rattle.smithy_lines.specs.Sources.{AnswersEach}
 use Rattle.smithy_lines.specs.declared.answer.StreamFault.{StreamFault}
 use Rattle.smithy_lines.specs.declared.answer.StreamFault.TheVariants as faults
 use Rattle.smithy_commands.specs.declared.status.Status.{Status}
-use Rattle.smithy_commands.specs.declared.status.Status.TheVariants.{Done, Usage, ReadFailed, WriteFailed, OutOfMemory, TableRefused, NoSuchShape, NotAStructure, TooLong, Differs, LinesRefused}
+use Rattle.smithy_commands.specs.declared.status.Status.TheVariants.{Done, Usage, ReadFailed, WriteFailed, OutOfMemory, TableRefused, NoSuchShape, NotAStructure, TooLong, Differs, LinesRefused, FindingsTold}
 use Rattle.smithy_commands.specs.Status.{tells_output}
 use Rattle.smithy_commands.specs.Checks.{RefusesTable, RefusesTableChecks, PassesTableChecks}
 use Rattle.smithy_commands.specs.Lines.{Lines, line_answers, AfterLines, BeforeLines, Says, AllIsInOrder, LinesAnswer}
@@ -125,6 +125,7 @@ refusal_tells_nothing : (root_name : List ℕ) (old new : Shown) (status : Statu
 refusal_tells_nothing root_name old new Done why tells = why
 refusal_tells_nothing root_name old new Differs why tells = why
 refusal_tells_nothing root_name old new LinesRefused why tells = why
+refusal_tells_nothing root_name old new FindingsTold why tells = why
 refusal_tells_nothing root_name old new _ why tells = cc
 
 -- what becomes of the output by the result: it holds nothing back, or it wasn't used; after its own fault or out of memory nothing is said

@@ -2,7 +2,7 @@
 use Rattle.std.proofs.Common.{◌≡◌, ◌≢◌, ◌≤◌, ◌+◌, ◌⊎◌, inl, inr, ℕ, List, length, true, false, refl, sym, subst, ap, arith}
 use Rattle.smithy_declarations.specs.Table.{Table}
 use Rattle.smithy_commands.specs.declared.status.Status.{Status}
-use Rattle.smithy_commands.specs.declared.status.Status.TheVariants.{Done, Usage, ReadFailed, WriteFailed, OutOfMemory, TableRefused, NoSuchShape, NotAStructure, TooLong, Differs, LinesRefused}
+use Rattle.smithy_commands.specs.declared.status.Status.TheVariants.{Done, Usage, ReadFailed, WriteFailed, OutOfMemory, TableRefused, NoSuchShape, NotAStructure, TooLong, Differs, LinesRefused, FindingsTold}
 use Rattle.smithy_commands.specs.Status.{tells_output, refuses_input}
 use Rattle.smithy_commands.specs.Checks.{longest_input, AfterInput, RefusesTable, RefusesChecks, PassesChecks}
 use Rattle.smithy_commands.specs.OneInput.{InputCommand, sources_of, Says, AllIsInOrder, EndsByInput, InputAnswer}
@@ -17,6 +17,7 @@ refusal_is_no_answer : (status : Status) → refuses_input status ≡ true → t
 refusal_is_no_answer Done refuses tells = cc
 refusal_is_no_answer Differs refuses tells = cc
 refusal_is_no_answer LinesRefused refuses tells = cc
+refusal_is_no_answer FindingsTold refuses tells = cc
 refusal_is_no_answer _ refuses tells = cc
 
 -- ---- a run that is all in order

@@ -15,7 +15,7 @@ use Rattle.smithy_outside.specs.Outside.{Shown, missing, MetNoFault, Shows, Gave
 use Rattle.smithy_outside.proofs.Moved.{gave_longer}
 use Rattle.smithy_commands.specs.Status.{tells_output, status_of_load_fault, status_of_table_fault}
 use Rattle.smithy_commands.specs.declared.status.Status.{Status}
-use Rattle.smithy_commands.specs.declared.status.Status.TheVariants.{Done, ReadFailed, OutOfMemory, TableRefused, NoSuchShape, NotAStructure, TooLong, Differs, LinesRefused}
+use Rattle.smithy_commands.specs.declared.status.Status.TheVariants.{Done, ReadFailed, OutOfMemory, TableRefused, NoSuchShape, NotAStructure, TooLong, Differs, LinesRefused, FindingsTold}
 use Rattle.smithy_commands.specs.Checks.{longest_table, longest_input, Sources, IsLoaded, IsInOrder, IsRoot, RefusesTable, RefusesTableChecks, RefusesChecks}
 use Rattle.smithy_commands.specs.Private.Stages.{FailsToLoad, FailsToFind}
 
@@ -117,6 +117,7 @@ pub refusal_tells_nothing : (root_name : List ℕ) (old new : Sources) (status :
 refusal_tells_nothing root_name old new Done why tells = why.1
 refusal_tells_nothing root_name old new Differs why tells = why.1
 refusal_tells_nothing root_name old new LinesRefused why tells = why.1
+refusal_tells_nothing root_name old new FindingsTold why tells = why.1
 refusal_tells_nothing root_name old new _ why tells = cc
 
 -- ---- a table that is told and in order

@@ -9,6 +9,7 @@ pub mod Gen
 pub mod Compare
 pub mod Lines
 pub mod Replay
+pub mod Lint
 pub mod Command
 pub mod RunAnswer
 pub mod System

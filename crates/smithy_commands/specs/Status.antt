@@ -12,7 +12,7 @@ use Rattle.smithy_outside.specs.declared.outside.LoadFault.{LoadFault}
 use Rattle.smithy_outside.specs.declared.outside.LoadFault.TheVariants as load_faults
 use Rattle.smithy_commands.specs.declared.status.Status.{Status}
 use Rattle.smithy_transcode.specs.declared.wire.Unfit.TheVariants.{Document, Null, Instant}
-use Rattle.smithy_commands.specs.declared.status.Status.TheVariants.{Done, Usage, ReadFailed, WriteFailed, OutOfMemory, InvalidInput, TooDeep, TooWide, NotCarried, Inexpressible, TableRefused, NoSuchShape, NotAStructure, TooLong, Differs, SecondInvalidInput, SecondTooDeep, SecondTooWide, SecondNotCarried, LinesRefused}
+use Rattle.smithy_commands.specs.declared.status.Status.TheVariants.{Done, Usage, ReadFailed, WriteFailed, OutOfMemory, InvalidInput, TooDeep, TooWide, NotCarried, Inexpressible, TableRefused, NoSuchShape, NotAStructure, TooLong, Differs, SecondInvalidInput, SecondTooDeep, SecondTooWide, SecondNotCarried, LinesRefused, FindingsTold, NotWellFormed, TooNested}
 
 -- the number that the program ends with: that of an error of `transcode`, or one of its own
 abbrev pub status_code : Status → ℕ
@@ -36,11 +36,15 @@ status_code SecondTooDeep = 42
 status_code SecondTooWide = 43
 status_code SecondNotCarried = 44
 status_code LinesRefused = 50
+status_code FindingsTold = 60
+status_code NotWellFormed = 61
+status_code TooNested = 62
 
 -- standard error takes no line; with any other status it takes one
 abbrev pub is_answer : Status → Bool
 is_answer Done = true
 is_answer Differs = true
+is_answer FindingsTold = true
 is_answer _ = false
 
 -- the output took what the command has to tell, and holds nothing back
@@ -48,6 +52,7 @@ abbrev pub tells_output : Status → Bool
 tells_output Done = true
 tells_output Differs = true
 tells_output LinesRefused = true
+tells_output FindingsTold = true
 tells_output _ = false
 
 -- the input is refused, or memory ran out
@@ -57,6 +62,8 @@ refuses_input TooDeep = true
 refuses_input TooWide = true
 refuses_input NotCarried = true
 refuses_input (Inexpressible u) = true
+refuses_input NotWellFormed = true
+refuses_input TooNested = true
 refuses_input OutOfMemory = true
 refuses_input _ = false
 
@@ -124,6 +131,9 @@ text_of SecondTooDeep = codes "too deep"
 text_of SecondTooWide = codes "number too wide"
 text_of SecondNotCarried = codes "not carried"
 text_of LinesRefused = codes "lines refused"
+text_of FindingsTold = []
+text_of NotWellFormed = codes "not well formed"
+text_of TooNested = codes "too nested"
 
 -- the line of a status that is no answer
 abbrev pub line_of : Status → List ℕ

@@ -7,6 +7,7 @@ ghost use Rattle.smithy_commands.specs.RunAnswer.{StatusAnswer};
 mod compare;
 mod generate;
 mod lines;
+mod lint;
 mod replay;
 mod transcode;
 
@@ -15,6 +16,7 @@ use crate::status::Status;
 use compare::{Compare, compare_files};
 use generate::{Gen, write_generated};
 use lines::{Lines, answer_lines};
+use lint::Lint;
 use replay::{Replay, replay_lines};
 use smithy_outside::{Files, Sink, Source};
 use std::alloc::Global;
@@ -33,6 +35,8 @@ pub enum Command<'a> {
     Lines(Lines<'a>),
     /// The lines of the input, as requests.
     Replay(Replay<'a>),
+    /// All that is found in one body.
+    Lint(Lint<'a>),
 }
 
 impl<'a> Command<'a> {
@@ -49,6 +53,7 @@ impl<'a> Command<'a> {
             "compare" => Some(Command::Compare(Compare::from_words(rest)?)),
             "lines" => Some(Command::Lines(Lines::from_words(rest)?)),
             "replay" => Some(Command::Replay(Replay::from_words(rest)?)),
+            "lint" => Some(Command::Lint(Lint::from_words(rest)?)),
             _ => None,
         }
     }
@@ -75,5 +80,6 @@ pub(crate) fn status_of<F: Files, S: Source, K: Sink>(
         Command::Compare(command) => compare_files(alloc, command, files, out),
         Command::Lines(command) => answer_lines(alloc, command, files, input, out),
         Command::Replay(command) => replay_lines(alloc, command, files, input, out),
+        Command::Lint(command) => answer_input(alloc, &command, files, input, out),
     }
 }

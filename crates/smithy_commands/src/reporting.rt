@@ -47,7 +47,7 @@ impl RunStatus for Status {
 
     fn write_text<E: Sink>(self, err: &mut E) -> Result<(), Failed> {
         match self {
-            Status::Done | Status::Differs => Ok(()),
+            Status::Done | Status::Differs | Status::FindingsTold => Ok(()),
             Status::Usage => write_bytes(err, b"usage"),
             Status::ReadFailed => write_bytes(err, b"read failed"),
             Status::WriteFailed => write_bytes(err, b"write failed"),
@@ -64,6 +64,8 @@ impl RunStatus for Status {
             Status::NotAStructure => write_bytes(err, b"not a structure"),
             Status::TooLong => write_bytes(err, b"too long"),
             Status::LinesRefused => write_bytes(err, b"lines refused"),
+            Status::NotWellFormed => write_bytes(err, b"not well formed"),
+            Status::TooNested => write_bytes(err, b"too nested"),
         }
     }
 }

@@ -10,7 +10,7 @@ use smithy_outside::{Files, Sink, Source};
 use std::alloc::Global;
 
 /// Runs the program with these words, which are its arguments without its own name, and answers the number
-/// that it ends with. `err` takes the line that says it, unless the number is 0 or 40, where `out` took an answer.
+/// that it ends with. `err` takes the line that says it, unless the number is 0, 40 or 60, where `out` took an answer.
 pub fn run<F: Files, S: Source, K: Sink, E: Sink>(
     alloc: Global,
     words: &[String],

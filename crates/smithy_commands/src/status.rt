@@ -50,6 +50,12 @@ pub enum Status {
     SecondNotCarried,
     /// The output took an answer to each line of the input, and some lines were refused.
     LinesRefused,
+    /// The output took a line for each finding of the input.
+    FindingsTold,
+    /// The input is no text of its wire.
+    NotWellFormed,
+    /// More than 512 containers of the input nest.
+    TooNested,
 }
 
 impl Status {
@@ -78,6 +84,9 @@ impl Status {
             Status::SecondTooWide => 43,
             Status::SecondNotCarried => 44,
             Status::LinesRefused => 50,
+            Status::FindingsTold => 60,
+            Status::NotWellFormed => 61,
+            Status::TooNested => 62,
         }
     }
 
@@ -85,7 +94,7 @@ impl Status {
     pub fn is_answer(self) -> bool
         ensures { result ≡ is_answer self }
     {
-        matches!(self, Status::Done | Status::Differs)
+        matches!(self, Status::Done | Status::Differs | Status::FindingsTold)
     }
 }
 

@@ -1,14 +1,16 @@
 use Rattle.std.proofs.Common.{Some, map, string_bytes, sym, ap, ◌∙◌, refl}
 use Rattle.smithy_outside.specs.Environment.{environment}
 use Rattle.smithy_outside.specs.Outside.{environment_of}
-use Rattle.smithy_commands.specs.Command.{transcode, gen, compare, lines, replay, command_view}
+use Rattle.smithy_commands.specs.Command.{transcode, gen, compare, lines, replay, lint, command_view}
 use Rattle.smithy_commands.specs.Transcode.{transcode_view, answers_of}
 use Rattle.smithy_commands.specs.Gen.{gen_view}
 use Rattle.smithy_commands.specs.Compare.{compare_view}
 use Rattle.smithy_commands.specs.Lines.{lines_view}
 use Rattle.smithy_commands.specs.Replay.{replay_view}
+use Rattle.smithy_commands.specs.Lint.{lint_view, answers_of as lint_answers}
 use Rattle.smithy_commands.proofs.CompareLemmas.{compare_is_no_usage}
 use Rattle.smithy_commands.proofs.GenLemmas.{gen_is_no_usage}
+use Rattle.smithy_commands.proofs.LintLemmas.{lint_answer}
 use Rattle.smithy_commands.proofs.LinesLemmas.{lines_is_no_usage}
 use Rattle.smithy_commands.proofs.OneInputLemmas.{input_is_no_usage}
 use Rattle.smithy_commands.proofs.ReplayLemmas.{replay_is_no_usage}
@@ -63,6 +65,15 @@ returns-in-Replay g c =
     let answer = c.replay_lines.ensures in
     status_of_command (map string_bytes c.args.words.now) (replay command) old new c.replay_lines.result (sym c.in-Some.ensures ∙ ap (λ x. Some (command_view x)) c.in-Replay.is)
     answer (replay_is_no_usage command old new c.replay_lines.result answer) answer.files_are_kept
+
+pub returns-in-Lint : goal.returns-in-Lint
+returns-in-Lint g c =
+    let old = environment g.F.Files g.S.Source g.K.Sink c.args.files.now c.args.input.now c.args.out.now in
+    let new = environment g.F.Files g.S.Source g.K.Sink c.answer_input-2.new.files c.answer_input-2.new.input c.answer_input-2.new.out in
+    let command = lint_view c.in-Lint.command in
+    let answer = c.answer_input-2.ensures in
+    status_of_command (map string_bytes c.args.words.now) (lint command) old new c.answer_input-2.result (sym c.in-Some.ensures ∙ ap (λ x. Some (command_view x)) c.in-Lint.is)
+    (lint_answer command old new c.answer_input-2.result answer) (input_is_no_usage (lint_answers command) old new c.answer_input-2.result answer) answer.files_are_kept
 
 pub returns-in_default : goal.returns-in_default
 returns-in_default g c =
