@@ -1,0 +1,10 @@
+pub mod Whole
+pub mod Reading
+pub mod Names
+pub mod Kept
+pub mod Answers
+pub mod Order
+pub mod Splitting
+pub mod FormParts
+pub mod Scalars
+pub mod Entries
