@@ -5,5 +5,7 @@ mod GenLemmas
 mod CompareLemmas
 mod LinesLemmas
 mod ReplayLemmas
+mod FindingLines
 mod LintLemmas
+mod FormLemmas
 mod RunLemmas

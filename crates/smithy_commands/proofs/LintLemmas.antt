@@ -1,5 +1,5 @@
 -- What the command `lint` says, by what `lint` of the library says.
-use Rattle.std.proofs.Common.{◌≡◌, ◌⊎◌, inl, inr, ℕ, List, [], ◌∷◌, map as mapped, Ok, Err, refl, sym, subst}
+use Rattle.std.proofs.Common.{◌≡◌, ◌⊎◌, inl, inr, ℕ, List, [], ◌∷◌, map as mapped, true, Ok, Err, refl, sym, subst}
 use Rattle.std.specs.declared.vec.Vec.{Vec}
 use Rattle.std.specs.declared.alloc.Global.{Global}
 use Rattle.smithy_declarations.specs.Table.{Table}
@@ -11,6 +11,7 @@ use Rattle.smithy_lint.specs.Lint.{IsEmptyBody, IsTextWithin, Lints}
 use Rattle.smithy_lint.specs.View.{found_of}
 use Rattle.smithy_commands.specs.declared.status.Status.{Status}
 use Rattle.smithy_commands.specs.declared.status.Status.TheVariants.{Done, OutOfMemory, FindingsTold, NotWellFormed, TooNested}
+use Rattle.smithy_commands.specs.Status.{tells_output}
 use Rattle.smithy_commands.specs.OneInput.{EndsByInput, InputAnswer}
 use Rattle.smithy_commands.specs.Lint.{Lint, finding_lines, status_of_found, status_of_lint_error, GivesFindings, RefusesBody, answers_of, LintAnswer}
 use Rattle.smithy_outside.specs.Outside.{Environment}
@@ -30,6 +31,10 @@ module _ (c : Lint) (table : Table) (root : ℕ) (input : List ℕ) where
       → bytes ≡ finding_lines table root (mapped found_of l.items) → GivesFindings c table root input status bytes
   findings_given l status bytes told is lines = (mapped found_of l.items, told.found, is, lines, told.clean)
 
+  pub found_tells : (found : List Found) → tells_output (status_of_found found) ≡ true
+  found_tells [] = refl
+  found_tells (f ∷ more) = refl
+
   status_of_answer : (found : List Found) → (status_of_found found ≡ Done) ⊎ (status_of_found found ≡ FindingsTold)
   status_of_answer [] = inl refl
   status_of_answer (f ∷ more) = inr refl
@@ -46,10 +51,10 @@ module _ (c : Lint) (table : Table) (root : ℕ) (input : List ℕ) where
       → (status ≡ Done) ⊎ ((status ≡ FindingsTold) ⊎ (status ≡ OutOfMemory))
   told_of text status (inl given) =
       subst (λ (s : Status). (s ≡ Done) ⊎ ((s ≡ FindingsTold) ⊎ (s ≡ OutOfMemory))) (sym given.1.2) (either (status_of_answer given.1.0)) where
-    either : (status_of_found given.1.0 ≡ Done) ⊎ (status_of_found given.1.0 ≡ FindingsTold)
-        → (status_of_found given.1.0 ≡ Done) ⊎ ((status_of_found given.1.0 ≡ FindingsTold) ⊎ (status_of_found given.1.0 ≡ OutOfMemory))
-    either (inl done) = inl done
-    either (inr told) = inr (inl told)
+        either : (status_of_found given.1.0 ≡ Done) ⊎ (status_of_found given.1.0 ≡ FindingsTold)
+            → (status_of_found given.1.0 ≡ Done) ⊎ ((status_of_found given.1.0 ≡ FindingsTold) ⊎ (status_of_found given.1.0 ≡ OutOfMemory))
+        either (inl done) = inl done
+        either (inr told) = inr (inl told)
   told_of text status (inr (inl why)) = inr (inr (only_memory text status why))
   told_of text status (inr (inr memory)) = inr (inr memory)
 

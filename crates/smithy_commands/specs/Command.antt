@@ -10,6 +10,7 @@ use Rattle.smithy_commands.specs.Compare.{Compare, compare_of, compare_view, Com
 use Rattle.smithy_commands.specs.Lines.{Lines, lines_asked, lines_view, LinesAnswer}
 use Rattle.smithy_commands.specs.Replay.{Replay, replay_of, replay_view, ReplayAnswer}
 use Rattle.smithy_commands.specs.Lint.{Lint, lint_of, lint_view, LintAnswer}
+use Rattle.smithy_commands.specs.Form.{Form, form_of, form_view, FormAnswer}
 
 pub data Command : Type 0 where
   transcode : Transcode → Command
@@ -18,6 +19,7 @@ pub data Command : Type 0 where
   lines : Lines → Command
   replay : Replay → Command
   lint : Lint → Command
+  form : Form → Command
 
 -- the command that the words are, by the first of them
 abbrev pub command_of : List (List ℕ) → Option Command
@@ -29,6 +31,7 @@ command_of (keyword ∷ words) =
     else if bytes_eq keyword (codes "lines") then option_map lines (lines_asked words)
     else if bytes_eq keyword (codes "replay") then option_map replay (replay_of words)
     else if bytes_eq keyword (codes "lint") then option_map lint (lint_of words)
+    else if bytes_eq keyword (codes "form") then option_map form (form_of words)
     else None
 
 -- what a status says where the words are this command
@@ -39,6 +42,7 @@ CommandAnswer (compare c) = CompareAnswer c
 CommandAnswer (lines c) = LinesAnswer c
 CommandAnswer (replay c) = ReplayAnswer c
 CommandAnswer (lint c) = LintAnswer c
+CommandAnswer (form c) = FormAnswer c
 
 -- the command as plain data
 abbrev pub command_view : kept.Command → Command
@@ -48,3 +52,4 @@ command_view (commands.Compare c) = compare (compare_view c)
 command_view (commands.Lines c) = lines (lines_view c)
 command_view (commands.Replay c) = replay (replay_view c)
 command_view (commands.Lint c) = lint (lint_view c)
+command_view (commands.Form c) = form (form_view c)

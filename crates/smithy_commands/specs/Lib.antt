@@ -10,6 +10,7 @@ pub mod Compare
 pub mod Lines
 pub mod Replay
 pub mod Lint
+pub mod Form
 pub mod Command
 pub mod RunAnswer
 pub mod System

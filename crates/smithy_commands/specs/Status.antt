@@ -12,7 +12,7 @@ use Rattle.smithy_outside.specs.declared.outside.LoadFault.{LoadFault}
 use Rattle.smithy_outside.specs.declared.outside.LoadFault.TheVariants as load_faults
 use Rattle.smithy_commands.specs.declared.status.Status.{Status}
 use Rattle.smithy_transcode.specs.declared.wire.Unfit.TheVariants.{Document, Null, Instant}
-use Rattle.smithy_commands.specs.declared.status.Status.TheVariants.{Done, Usage, ReadFailed, WriteFailed, OutOfMemory, InvalidInput, TooDeep, TooWide, NotCarried, Inexpressible, TableRefused, NoSuchShape, NotAStructure, TooLong, Differs, SecondInvalidInput, SecondTooDeep, SecondTooWide, SecondNotCarried, LinesRefused, FindingsTold, NotWellFormed, TooNested}
+use Rattle.smithy_commands.specs.declared.status.Status.TheVariants.{Done, Usage, ReadFailed, WriteFailed, OutOfMemory, InvalidInput, TooDeep, TooWide, NotCarried, Inexpressible, TableRefused, NoSuchShape, NotAStructure, TooLong, Differs, SecondInvalidInput, SecondTooDeep, SecondTooWide, SecondNotCarried, LinesRefused, FindingsTold, NotWellFormed, TooNested, BadPair, NotForm, Repeated, NoValue}
 
 -- the number that the program ends with: that of an error of `transcode`, or one of its own
 abbrev pub status_code : Status → ℕ
@@ -39,6 +39,10 @@ status_code LinesRefused = 50
 status_code FindingsTold = 60
 status_code NotWellFormed = 61
 status_code TooNested = 62
+status_code (BadPair n) = 70
+status_code NotForm = 71
+status_code (Repeated n) = 72
+status_code NoValue = 73
 
 -- standard error takes no line; with any other status it takes one
 abbrev pub is_answer : Status → Bool
@@ -64,6 +68,10 @@ refuses_input NotCarried = true
 refuses_input (Inexpressible u) = true
 refuses_input NotWellFormed = true
 refuses_input TooNested = true
+refuses_input (BadPair n) = true
+refuses_input NotForm = true
+refuses_input (Repeated n) = true
+refuses_input NoValue = true
 refuses_input OutOfMemory = true
 refuses_input _ = false
 
@@ -134,6 +142,10 @@ text_of LinesRefused = codes "lines refused"
 text_of FindingsTold = []
 text_of NotWellFormed = codes "not well formed"
 text_of TooNested = codes "too nested"
+text_of (BadPair n) = numbered (codes "bad pair") n
+text_of NotForm = codes "not a form"
+text_of (Repeated n) = numbered (codes "repeated path") n
+text_of NoValue = codes "no value"
 
 -- the line of a status that is no answer
 abbrev pub line_of : Status → List ℕ

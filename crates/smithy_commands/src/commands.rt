@@ -5,6 +5,7 @@ ghost use Rattle.smithy_commands.specs.Command.{command_of, command_view};
 ghost use Rattle.smithy_commands.specs.RunAnswer.{StatusAnswer};
 
 mod compare;
+mod form;
 mod generate;
 mod lines;
 mod lint;
@@ -14,6 +15,7 @@ mod transcode;
 use crate::one_input::answer_input;
 use crate::status::Status;
 use compare::{Compare, compare_files};
+use form::Form;
 use generate::{Gen, write_generated};
 use lines::{Lines, answer_lines};
 use lint::Lint;
@@ -37,6 +39,8 @@ pub enum Command<'a> {
     Replay(Replay<'a>),
     /// All that is found in one body.
     Lint(Lint<'a>),
+    /// The value of a form, in another wire.
+    Form(Form<'a>),
 }
 
 impl<'a> Command<'a> {
@@ -54,6 +58,7 @@ impl<'a> Command<'a> {
             "lines" => Some(Command::Lines(Lines::from_words(rest)?)),
             "replay" => Some(Command::Replay(Replay::from_words(rest)?)),
             "lint" => Some(Command::Lint(Lint::from_words(rest)?)),
+            "form" => Some(Command::Form(Form::from_words(rest)?)),
             _ => None,
         }
     }
@@ -81,5 +86,6 @@ pub(crate) fn status_of<F: Files, S: Source, K: Sink>(
         Command::Lines(command) => answer_lines(alloc, command, files, input, out),
         Command::Replay(command) => replay_lines(alloc, command, files, input, out),
         Command::Lint(command) => answer_input(alloc, &command, files, input, out),
+        Command::Form(command) => answer_input(alloc, &command, files, input, out),
     }
 }

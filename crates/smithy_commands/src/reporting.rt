@@ -66,6 +66,10 @@ impl RunStatus for Status {
             Status::LinesRefused => write_bytes(err, b"lines refused"),
             Status::NotWellFormed => write_bytes(err, b"not well formed"),
             Status::TooNested => write_bytes(err, b"too nested"),
+            Status::BadPair(number) => write_fault(err, b"bad pair", number),
+            Status::NotForm => write_bytes(err, b"not a form"),
+            Status::Repeated(number) => write_fault(err, b"repeated path", number),
+            Status::NoValue => write_bytes(err, b"no value"),
         }
     }
 }

@@ -56,6 +56,14 @@ pub enum Status {
     NotWellFormed,
     /// More than 512 containers of the input nest.
     TooNested,
+    /// The pair of this number, from 1, is no pair of a form.
+    BadPair(u64),
+    /// The input doesn't begin with an action and a version.
+    NotForm,
+    /// The pair of this number has the name of an earlier one.
+    Repeated(u64),
+    /// The pairs of the input are the leaves of no value of the root.
+    NoValue,
 }
 
 impl Status {
@@ -87,6 +95,10 @@ impl Status {
             Status::FindingsTold => 60,
             Status::NotWellFormed => 61,
             Status::TooNested => 62,
+            Status::BadPair(_) => 70,
+            Status::NotForm => 71,
+            Status::Repeated(_) => 72,
+            Status::NoValue => 73,
         }
     }
 

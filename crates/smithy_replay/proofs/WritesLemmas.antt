@@ -23,7 +23,7 @@ use Rattle.smithy_query_codec.proofs.WholeForms.{fit_is_written, whole_state}
 use Rattle.smithy_transcode.specs.Wires.{Wire, json, cbor, query, unfit_at}
 use Rattle.smithy_transcode.proofs.Bodies.{parts_at, json_body, json_adds, cbor_settings, cbor_body, cbor_adds, form_takes}
 use Rattle.smithy_replay.specs.TreeMembers.{members_in}
-use Rattle.smithy_replay.specs.Writes.{IsBodyOrNoMemory, LeavesBody, WritesBody}
+use Rattle.smithy_replay.specs.Writes.{IsBodyOrNoMemory, LeavesBody, WritesItsBody}
 use Rattle.smithy_replay.proofs.RequestLemmas.{is_structure}
 
 module _ {S : Type 0} (after : Writer S) (out : S → List ℕ) (site : Site) (ms : MemberValues) (s u : S) where
@@ -39,7 +39,7 @@ leaves after out site v ms s u is can = λ r wraps.
     (structure_runs after site ms false s r refl (subst (λ x. Wraps after (begin_structure site) end_structure (Runs after (member_events site (members_in x))) false s r) is wraps))
 
 pub writes_body : (wire : Wire) (t : Table) (p : Place) (view : View) (v : Value) → IsAccepted t → IsStructure (kind_of t p) → Fits t p v → view.name ≡ None → unfit_at wire (site_at t p view) v ≡ None
-    → WritesBody wire (site_at t p view) v
+    → WritesItsBody wire (site_at t p view) v
 writes_body (json b n) t p view v accepted kind fits nameless fit =
     let site = site_at t p view in
     leaves json_after (λ (s : JsonState). s.out) site v (members_in v) (fresh_json (strict_settings b)) (json_body b site v) (is_structure t p v kind fits)

@@ -29,11 +29,11 @@ LeavesBody {S} after out site v fresh body = (r : Result S SerdeError)
     → Wraps after (begin_structure site) end_structure (Runs after (member_events site (members_in v))) false fresh r → IsBodyOrNoMemory out body r
 
 -- By the wire, the body is the value's own. A form numbers the parts of lists and maps.
-abbrev pub WritesBody : Wire → Site → Value → Type 0
-WritesBody (json use_json_name integral) site v =
+abbrev pub WritesItsBody : Wire → Site → Value → Type 0
+WritesItsBody (json use_json_name integral) site v =
     LeavesBody json_after (λ (s : JsonState). s.out) site v (fresh_json (strict_settings use_json_name)) (canonical_json (strict_settings use_json_name) site v)
-WritesBody (cbor definite_lengths) site v =
+WritesItsBody (cbor definite_lengths) site v =
     LeavesBody cbor_after (λ (s : CborState). s.body.out) site v (fresh_cbor (record strict_cbor { use_definite_lengths = definite_lengths }))
     (canonical_cbor definite_lengths site v)
-WritesBody (query action version) site v =
+WritesItsBody (query action version) site v =
     HasPositions v → LeavesBody query_after (λ (s : QueryState). s.out) site v (fresh_form action version) (canonical_query action version site v)

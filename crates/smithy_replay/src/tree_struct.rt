@@ -24,7 +24,7 @@ impl<'s, 'v> TreeStruct<'s, 'v> {
     ghost use Rattle.smithy_shapes.specs.Accepted.{IsAccepted};
     ghost use Rattle.smithy_shapes.specs.Site.{site_of};
     ghost use Rattle.smithy_transcode.specs.Wires.{Wire, unfit_at};
-    ghost use Rattle.smithy_replay.specs.Writes.{WritesBody};
+    ghost use Rattle.smithy_replay.specs.Writes.{WritesItsBody};
 
     /// The structure that a value is. Where a wire can express it, `write_struct` with it on a fresh serializer of the wire writes its body,
     /// or reports that memory ran out.
@@ -34,7 +34,7 @@ impl<'s, 'v> TreeStruct<'s, 'v> {
         ensures shape { result.shape ≡ shape.entry }
         ensures value { result.value.now ≡ value.now }
         ensures writes { (wire : Wire) → IsAccepted shape.entry.shapes.now → (site_of shape.entry).view.name ≡ None → unfit_at wire (site_of shape.entry) (view value.now) ≡ None
-            → WritesBody wire (site_of shape.entry) (view value.now) }
+            → WritesItsBody wire (site_of shape.entry) (view value.now) }
     {
         TreeStruct {
             alloc,

@@ -1,7 +1,7 @@
 //! The command `lint`: all that is found in one body.
 ghost use Rattle.std.specs.Prelude.{◌≡◌, ◌<◌, ◌++◌, length, map as mapped, option_map, string_bytes, IfOk};
 ghost use Rattle.smithy_lint.specs.View.{found_of};
-ghost use Rattle.smithy_commands.specs.Lint.{lint_of, lint_view, kind_text, finding_lines, status_of_lint_error, answers_of};
+ghost use Rattle.smithy_commands.specs.Lint.{lint_of, lint_view, kind_text, finding_lines, status_of_found, status_of_lint_error, answers_of};
 
 use crate::one_input::{Answer, AnswerInput};
 use crate::status::Status;
@@ -47,6 +47,16 @@ impl<'a> Lint<'a> {
             }),
             _ => None,
         }
+    }
+}
+
+// By whether anything was found.
+fn status_of(findings: &[Finding]) -> Status
+    ensures { result ≡ status_of_found (mapped found_of findings.now) }
+{
+    match findings {
+        [] => Status::Done,
+        _ => Status::FindingsTold,
     }
 }
 
@@ -106,13 +116,8 @@ impl AnswerInput for Lint<'_> {
     ) -> Result<Answer, Status> {
         let wire = wire_of_words(alloc, self.wire)?;
         let findings = lint(alloc, table, root, &wire, input)?;
-        let status = if findings.is_empty() {
-            Status::Done
-        } else {
-            Status::FindingsTold
-        };
         Ok(Answer {
-            status,
+            status: status_of(&findings),
             bytes: lines_of(alloc, table, root, &findings)?,
         })
     }

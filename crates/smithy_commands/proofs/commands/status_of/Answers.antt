@@ -1,15 +1,17 @@
 use Rattle.std.proofs.Common.{Some, map, string_bytes, sym, ap, ◌∙◌, refl}
 use Rattle.smithy_outside.specs.Environment.{environment}
 use Rattle.smithy_outside.specs.Outside.{environment_of}
-use Rattle.smithy_commands.specs.Command.{transcode, gen, compare, lines, replay, lint, command_view}
+use Rattle.smithy_commands.specs.Command.{transcode, gen, compare, lines, replay, lint, form, command_view}
 use Rattle.smithy_commands.specs.Transcode.{transcode_view, answers_of}
 use Rattle.smithy_commands.specs.Gen.{gen_view}
 use Rattle.smithy_commands.specs.Compare.{compare_view}
 use Rattle.smithy_commands.specs.Lines.{lines_view}
 use Rattle.smithy_commands.specs.Replay.{replay_view}
 use Rattle.smithy_commands.specs.Lint.{lint_view, answers_of as lint_answers}
+use Rattle.smithy_commands.specs.Form.{form_view, answers_of as form_answers}
 use Rattle.smithy_commands.proofs.CompareLemmas.{compare_is_no_usage}
 use Rattle.smithy_commands.proofs.GenLemmas.{gen_is_no_usage}
+use Rattle.smithy_commands.proofs.FormLemmas.{form_answer}
 use Rattle.smithy_commands.proofs.LintLemmas.{lint_answer}
 use Rattle.smithy_commands.proofs.LinesLemmas.{lines_is_no_usage}
 use Rattle.smithy_commands.proofs.OneInputLemmas.{input_is_no_usage}
@@ -69,11 +71,20 @@ returns-in-Replay g c =
 pub returns-in-Lint : goal.returns-in-Lint
 returns-in-Lint g c =
     let old = environment g.F.Files g.S.Source g.K.Sink c.args.files.now c.args.input.now c.args.out.now in
-    let new = environment g.F.Files g.S.Source g.K.Sink c.answer_input-2.new.files c.answer_input-2.new.input c.answer_input-2.new.out in
+    let new = environment g.F.Files g.S.Source g.K.Sink c.answer_input-in-Lint.new.files c.answer_input-in-Lint.new.input c.answer_input-in-Lint.new.out in
     let command = lint_view c.in-Lint.command in
-    let answer = c.answer_input-2.ensures in
-    status_of_command (map string_bytes c.args.words.now) (lint command) old new c.answer_input-2.result (sym c.in-Some.ensures ∙ ap (λ x. Some (command_view x)) c.in-Lint.is)
-    (lint_answer command old new c.answer_input-2.result answer) (input_is_no_usage (lint_answers command) old new c.answer_input-2.result answer) answer.files_are_kept
+    let answer = c.answer_input-in-Lint.ensures in
+    status_of_command (map string_bytes c.args.words.now) (lint command) old new c.answer_input-in-Lint.result (sym c.in-Some.ensures ∙ ap (λ x. Some (command_view x)) c.in-Lint.is)
+    (lint_answer command old new c.answer_input-in-Lint.result answer) (input_is_no_usage (lint_answers command) old new c.answer_input-in-Lint.result answer) answer.files_are_kept
+
+pub returns-in-Form : goal.returns-in-Form
+returns-in-Form g c =
+    let old = environment g.F.Files g.S.Source g.K.Sink c.args.files.now c.args.input.now c.args.out.now in
+    let new = environment g.F.Files g.S.Source g.K.Sink c.answer_input-in-Form.new.files c.answer_input-in-Form.new.input c.answer_input-in-Form.new.out in
+    let command = form_view c.in-Form.command in
+    let answer = c.answer_input-in-Form.ensures in
+    status_of_command (map string_bytes c.args.words.now) (form command) old new c.answer_input-in-Form.result (sym c.in-Some.ensures ∙ ap (λ x. Some (command_view x)) c.in-Form.is)
+    (form_answer command old new c.answer_input-in-Form.result answer) (input_is_no_usage (form_answers command) old new c.answer_input-in-Form.result answer) answer.files_are_kept
 
 pub returns-in_default : goal.returns-in_default
 returns-in_default g c =
