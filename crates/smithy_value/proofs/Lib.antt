@@ -8,6 +8,10 @@ pub mod Maps
 mod PoolTrees
 mod ReadAnswers
 mod ReadDeep
+mod ReadItems
+mod ReadMembers
+mod ReadScalars
+mod ReadTrees
 mod ReadTypes
 mod ReadViews
 pub mod ReadWide

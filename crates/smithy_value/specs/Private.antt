@@ -1,3 +1,4 @@
 -- Words that private clauses cite.
+pub mod Items
+pub mod Leaves
 pub mod Placed
-pub mod Rare

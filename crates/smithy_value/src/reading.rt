@@ -1,18 +1,21 @@
 //! Reading a value tree from any wire.
-ghost use Rattle.std.specs.Prelude.{◌≡◌, true, false, IfOk, OnErr};
+ghost use Rattle.std.specs.Prelude.{◌≡◌, Some, true, false, IfOk, OnErr};
 ghost use Rattle.smithy_declarations.specs.Table.{type_of, IsStructure, IsUnion, IsList, IsMap};
 ghost use Rattle.smithy_shapes.specs.Site.{site_of, kind_at};
 ghost use Rattle.smithy_schema.specs.Nodes.{nodes};
 ghost use Rattle.smithy_schema.specs.Reading.{HaveBytes};
 ghost use Rattle.smithy_value.specs.ReadTree.{ReadsBy, ReadsUnder, ReadsTree};
 ghost use Rattle.smithy_value.specs.View.{view};
-ghost use Rattle.smithy_value.specs.Private.Rare.{IsRare};
+ghost use Rattle.smithy_value.specs.Private.Leaves.{IsLeaf, IsRare};
+ghost use Rattle.smithy_value.specs.Private.Items.{ReadsItem, ReadsAnyNull};
 
 use crate::borrowing::Borrowing;
 use crate::tree::Trees;
 use crate::value::Value;
 use crate::value_trees::ValueTrees;
-use smithy_schema::{BorrowDeserializer, PieceDeserializer, Schema, SerdeError, ShapeType, Step};
+use smithy_schema::{
+    BorrowDeserializer, PieceDeserializer, Schema, SerdeError, ShapeDeserializer, ShapeType, Step,
+};
 use std::alloc::Global;
 
 /// Reads the value of the schema that is due, whatever the wire. Its texts and bytes borrow from the input of the reader, which they
@@ -104,6 +107,37 @@ fn read_part<P: Trees, D: PieceDeserializer<Text = P::Text, Bytes = P::Bytes>>(
     ensures { ReadsTree D.ShapeDeserializer P.keeps P.stands P.view source.old source.new trees.old trees.new (site_of schema.now) result }
 {
     match schema.shape_type() {
+        ShapeType::Structure => read_structure::<P, D>(alloc, source, trees, schema),
+        ShapeType::Union => read_union::<P, D>(alloc, source, trees, schema),
+        ShapeType::List => read_list::<P, D>(alloc, source, trees, schema),
+        ShapeType::Map => read_map::<P, D>(alloc, source, trees, schema),
+        ShapeType::Boolean
+        | ShapeType::Byte
+        | ShapeType::Short
+        | ShapeType::Integer
+        | ShapeType::Long
+        | ShapeType::String
+        | ShapeType::Blob
+        | ShapeType::BigInteger
+        | ShapeType::BigDecimal
+        | ShapeType::Timestamp
+        | ShapeType::Document => read_leaf::<P, D>(source, trees, schema),
+    }
+}
+
+// Reads the value of the schema that is due, where it isn't a container.
+#[inline(always)]
+fn read_leaf<P: Trees, D: PieceDeserializer<Text = P::Text, Bytes = P::Bytes>>(
+    source: &mut D,
+    trees: &mut P,
+    schema: &Schema<'_>,
+) -> Result<P::Tree, SerdeError>
+    requires due { (D.state source.old).due ≡ true }
+    requires sound { P.sound trees.old (D.state source.old).input }
+    requires leaf { IsLeaf (type_of (kind_at (site_of schema.now))) }
+    ensures { ReadsTree D.ShapeDeserializer P.keeps P.stands P.view source.old source.new trees.old trees.new (site_of schema.now) result }
+{
+    match schema.shape_type() {
         ShapeType::Boolean => Ok(P::boolean(source.read_boolean(schema)?)),
         ShapeType::Byte => Ok(P::whole(i64::from(source.read_byte(schema)?))),
         ShapeType::Short => Ok(P::whole(i64::from(source.read_short(schema)?))),
@@ -115,10 +149,9 @@ fn read_part<P: Trees, D: PieceDeserializer<Text = P::Text, Bytes = P::Bytes>>(
         | ShapeType::BigDecimal
         | ShapeType::Timestamp
         | ShapeType::Document => read_out_of_line::<P, D>(source, trees, schema),
-        ShapeType::Structure => read_structure::<P, D>(alloc, source, trees, schema),
-        ShapeType::Union => read_union::<P, D>(alloc, source, trees, schema),
-        ShapeType::List => read_list::<P, D>(alloc, source, trees, schema),
-        ShapeType::Map => read_map::<P, D>(alloc, source, trees, schema),
+        ShapeType::List | ShapeType::Map | ShapeType::Structure | ShapeType::Union => {
+            unreachable!()
+        }
     }
 }
 
@@ -240,17 +273,8 @@ fn read_list<P: Trees, D: PieceDeserializer<Text = P::Text, Bytes = P::Bytes>>(
     let kind = element.shape_type();
     let mut elements = trees.no_elements(alloc);
     while source.next_element()? {
-        if sparse && source.is_null() {
-            source.read_null()?;
-            trees.push_element(&mut elements, P::null())?;
-        } else if let ShapeType::Long = kind {
-            // A list may have millions of longs, so each is read here, without the answer of a call for any kind.
-            let number = source.read_long(&element)?;
-            trees.push_element(&mut elements, P::whole(number))?;
-        } else {
-            let item = read_part::<P, D>(alloc, source, trees, &element)?;
-            trees.push_element(&mut elements, item)?;
-        }
+        let item = read_item::<P, D>(alloc, source, trees, sparse, kind, &element)?;
+        trees.push_element(&mut elements, item)?;
     }
     trees.list(elements)
 }
@@ -273,15 +297,50 @@ fn read_map<P: Trees, D: PieceDeserializer<Text = P::Text, Bytes = P::Bytes>>(
     let Some(inner) = schema.member() else {
         unreachable!()
     };
+    let kind = inner.shape_type();
     let mut entries = trees.no_entries(alloc);
     while let Some(key) = source.take_key()? {
-        if sparse && source.is_null() {
-            source.read_null()?;
-            trees.set_entry(alloc, &mut entries, key, P::null())?;
-        } else {
-            let value = read_part::<P, D>(alloc, source, trees, &inner)?;
-            trees.set_entry(alloc, &mut entries, key, value)?;
-        }
+        let value = read_item::<P, D>(alloc, source, trees, sparse, kind, &inner)?;
+        trees.set_entry(alloc, &mut entries, key, value)?;
     }
     trees.map(alloc, entries)
+}
+
+// Reads the element of a list or the value of a map's entry that is due. It may be a null where the list or the map is sparse.
+#[cycle(read)]
+#[inline(always)]
+fn read_item<P: Trees, D: PieceDeserializer<Text = P::Text, Bytes = P::Bytes>>(
+    alloc: Global,
+    source: &mut D,
+    trees: &mut P,
+    sparse: bool,
+    kind: ShapeType,
+    schema: &Schema<'_>,
+) -> Result<P::Tree, SerdeError>
+    requires due { (D.state source.old).due ≡ true }
+    requires sound { P.sound trees.old (D.state source.old).input }
+    requires kind { Some kind ≡ type_of (kind_at (site_of schema.now)) }
+    ensures { ReadsItem D.ShapeDeserializer P.keeps P.stands P.view source.old source.new trees.old trees.new sparse (site_of schema.now) result }
+{
+    if read_any_null(source, sparse)? {
+        return Ok(P::null());
+    }
+    if let ShapeType::Long = kind {
+        // A list may have millions of longs, so each is read here, without the answer of a call for any kind.
+        return Ok(P::whole(source.read_long(schema)?));
+    }
+    read_part::<P, D>(alloc, source, trees, schema)
+}
+
+// Reads a null if one is due where nulls are allowed: whether there was one.
+#[inline(always)]
+fn read_any_null<D: ShapeDeserializer>(source: &mut D, sparse: bool) -> Result<bool, SerdeError>
+    ensures same { D.settings source.new ≡ D.settings source.old }
+    ensures null { ReadsAnyNull (D.reading (D.settings source.old)) sparse (D.state source.old) (D.state source.new) result }
+{
+    if sparse && source.is_null() {
+        source.read_null()?;
+        return Ok(true);
+    }
+    Ok(false)
 }

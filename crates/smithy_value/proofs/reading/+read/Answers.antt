@@ -2,157 +2,32 @@ use Rattle.smithy_value.proofs.reading.+read.Answers.Structures as structures
 use Rattle.smithy_value.proofs.reading.+read.Answers.Unions as unions
 use Rattle.smithy_value.proofs.reading.+read.Answers.Lists as lists
 use Rattle.smithy_value.proofs.reading.+read.Answers.Maps as maps
-use Rattle.std.proofs.Common.{Some, ap, rules, sym, ◌∙◌}
-use Rattle.std.proofs.lemmas.Result.{err_from_is_err_and}
-use Rattle.smithy_declarations.specs.declared.shape_type.Scalar.TheVariants as scalars
-use Rattle.smithy_shapes.specs.Site.{site_of}
-use Rattle.smithy_value.proofs.Made.{made_shown, made_added}
-use Rattle.smithy_value.proofs.ReadAnswers.{scalar_fails, scalar_made}
+use Rattle.smithy_value.proofs.reading.+read.Answers.Items as items
 use Rattle.smithy_value.proofs.reading.+read.Goals as goal
+mod Items
 mod Lists
 mod Maps
 mod Structures
 mod Unions
 
--- scalars
-pub read_part-returns-in_err-read_boolean-in-Boolean : goal.read_part-returns-in_err-read_boolean-in-Boolean
-read_part-returns-in_err-read_boolean-in-Boolean g t c =
-    let p = err_from_is_err_and c.from_residual.result c.from_residual.ensures.1 in
-    rw (p.1, p.2)
-    (record {
-      same = c.read_boolean.ensures.same;
-      reads = scalar_fails _ _ _ _ scalars.Boolean _ _ (site_of c.args.schema.now) _ _ _ (ap Some (sym c.in-Boolean.is) ∙ c.shape_type.ensures) c.requires.due c.in_err-read_boolean-in-Boolean.ensures.read;
-      adds = tt;
-    })
+-- items
+pub read_item-returns-in_err-read_any_null : goal.read_item-returns-in_err-read_any_null
+read_item-returns-in_err-read_any_null = items.read_item-returns-in_err-read_any_null
 
-pub read_part-returns-in_ok-read_boolean-in-Boolean : goal.read_part-returns-in_ok-read_boolean-in-Boolean
-read_part-returns-in_ok-read_boolean-in-Boolean g t c =
-    let counts = g.met.D.ShapeDeserializer.counts (g.D.ShapeDeserializer.settings c.args.source.now) in
-    record {
-      same = c.read_boolean.ensures.same;
-      reads = scalar_made _ _ _ _ scalars.Boolean _ _ (site_of c.args.schema.now) _ _ _ _ _ counts (ap Some (sym c.in-Boolean.is) ∙ c.shape_type.ensures) c.in_ok-read_boolean-in-Boolean.ensures.read (search rules) (c.boolean.ensures.shows c.args.trees.now) tt;
-      adds = (g.P.Trees.keeps_lawfully.itself _ _ c.requires.sound, c.boolean.ensures.stands c.args.trees.now);
-    }
+pub read_item-returns-then-branch : goal.read_item-returns-then-branch
+read_item-returns-then-branch = items.read_item-returns-then-branch
 
-pub read_part-returns-in_err-read_byte-in-Byte : goal.read_part-returns-in_err-read_byte-in-Byte
-read_part-returns-in_err-read_byte-in-Byte g t c =
-    let p = err_from_is_err_and c.from_residual-in_err-read_byte-in-Byte.result c.from_residual-in_err-read_byte-in-Byte.ensures.1 in
-    rw (p.1, p.2)
-    (record {
-      same = c.read_byte.ensures.same;
-      reads = scalar_fails _ _ _ _ scalars.Byte _ _ (site_of c.args.schema.now) _ _ _ (ap Some (sym c.in-Byte.is) ∙ c.shape_type.ensures) c.requires.due c.in_err-read_byte-in-Byte.ensures.read;
-      adds = tt;
-    })
+pub read_item-returns-in_err-read_long : goal.read_item-returns-in_err-read_long
+read_item-returns-in_err-read_long = items.read_item-returns-in_err-read_long
 
-pub read_part-returns-in_ok-read_byte-in-Byte : goal.read_part-returns-in_ok-read_byte-in-Byte
-read_part-returns-in_ok-read_byte-in-Byte g t c =
-    let counts = g.met.D.ShapeDeserializer.counts (g.D.ShapeDeserializer.settings c.args.source.now) in
-    record {
-      same = c.read_byte.ensures.same;
-      reads = scalar_made _ _ _ _ scalars.Byte _ _ (site_of c.args.schema.now) _ _ _ _ _ counts (ap Some (sym c.in-Byte.is) ∙ c.shape_type.ensures) c.in_ok-read_byte-in-Byte.ensures.read (search rules) (c.whole.ensures.shows c.args.trees.now) tt;
-      adds = (g.P.Trees.keeps_lawfully.itself _ _ c.requires.sound, c.whole.ensures.stands c.args.trees.now);
-    }
+pub read_item-returns-in-Long : goal.read_item-returns-in-Long
+read_item-returns-in-Long = items.read_item-returns-in-Long
 
-pub read_part-returns-in_err-read_short-in-Short : goal.read_part-returns-in_err-read_short-in-Short
-read_part-returns-in_err-read_short-in-Short g t c =
-    let p = err_from_is_err_and c.from_residual-in_err-read_short-in-Short.result c.from_residual-in_err-read_short-in-Short.ensures.1 in
-    rw (p.1, p.2)
-    (record {
-      same = c.read_short.ensures.same;
-      reads = scalar_fails _ _ _ _ scalars.Short _ _ (site_of c.args.schema.now) _ _ _ (ap Some (sym c.in-Short.is) ∙ c.shape_type.ensures) c.requires.due c.in_err-read_short-in-Short.ensures.read;
-      adds = tt;
-    })
+pub read_item-returns : goal.read_item-returns
+read_item-returns = items.read_item-returns
 
-pub read_part-returns-in_ok-read_short-in-Short : goal.read_part-returns-in_ok-read_short-in-Short
-read_part-returns-in_ok-read_short-in-Short g t c =
-    let counts = g.met.D.ShapeDeserializer.counts (g.D.ShapeDeserializer.settings c.args.source.now) in
-    record {
-      same = c.read_short.ensures.same;
-      reads = scalar_made _ _ _ _ scalars.Short _ _ (site_of c.args.schema.now) _ _ _ _ _ counts (ap Some (sym c.in-Short.is) ∙ c.shape_type.ensures) c.in_ok-read_short-in-Short.ensures.read (search rules) (c.whole-in-Short.ensures.shows c.args.trees.now) tt;
-      adds = (g.P.Trees.keeps_lawfully.itself _ _ c.requires.sound, c.whole-in-Short.ensures.stands c.args.trees.now);
-    }
-
-pub read_part-returns-in_err-read_integer-in-Integer : goal.read_part-returns-in_err-read_integer-in-Integer
-read_part-returns-in_err-read_integer-in-Integer g t c =
-    let p = err_from_is_err_and c.from_residual-in_err-read_integer-in-Integer.result c.from_residual-in_err-read_integer-in-Integer.ensures.1 in
-    rw (p.1, p.2)
-    (record {
-      same = c.read_integer.ensures.same;
-      reads = scalar_fails _ _ _ _ scalars.Integer _ _ (site_of c.args.schema.now) _ _ _ (ap Some (sym c.in-Integer.is) ∙ c.shape_type.ensures) c.requires.due c.in_err-read_integer-in-Integer.ensures.read;
-      adds = tt;
-    })
-
-pub read_part-returns-in_ok-read_integer-in-Integer : goal.read_part-returns-in_ok-read_integer-in-Integer
-read_part-returns-in_ok-read_integer-in-Integer g t c =
-    let counts = g.met.D.ShapeDeserializer.counts (g.D.ShapeDeserializer.settings c.args.source.now) in
-    record {
-      same = c.read_integer.ensures.same;
-      reads = scalar_made _ _ _ _ scalars.Integer _ _ (site_of c.args.schema.now) _ _ _ _ _ counts (ap Some (sym c.in-Integer.is) ∙ c.shape_type.ensures) c.in_ok-read_integer-in-Integer.ensures.read (search rules) (c.whole-in-Integer.ensures.shows c.args.trees.now) tt;
-      adds = (g.P.Trees.keeps_lawfully.itself _ _ c.requires.sound, c.whole-in-Integer.ensures.stands c.args.trees.now);
-    }
-
-pub read_part-returns-in_err-read_long-in-Long : goal.read_part-returns-in_err-read_long-in-Long
-read_part-returns-in_err-read_long-in-Long g t c =
-    let p = err_from_is_err_and c.from_residual-in_err-read_long-in-Long.result c.from_residual-in_err-read_long-in-Long.ensures.1 in
-    rw (p.1, p.2)
-    (record {
-      same = c.read_long.ensures.same;
-      reads = scalar_fails _ _ _ _ scalars.Long _ _ (site_of c.args.schema.now) _ _ _ (ap Some (sym c.in-Long.is) ∙ c.shape_type.ensures) c.requires.due c.in_err-read_long-in-Long.ensures.read;
-      adds = tt;
-    })
-
-pub read_part-returns-in_ok-read_long-in-Long : goal.read_part-returns-in_ok-read_long-in-Long
-read_part-returns-in_ok-read_long-in-Long g t c =
-    let counts = g.met.D.ShapeDeserializer.counts (g.D.ShapeDeserializer.settings c.args.source.now) in
-    record {
-      same = c.read_long.ensures.same;
-      reads = scalar_made _ _ _ _ scalars.Long _ _ (site_of c.args.schema.now) _ _ _ _ _ counts (ap Some (sym c.in-Long.is) ∙ c.shape_type.ensures) c.in_ok-read_long-in-Long.ensures.read (search rules) (c.whole-in-Long.ensures.shows c.args.trees.now) tt;
-      adds = (g.P.Trees.keeps_lawfully.itself _ _ c.requires.sound, c.whole-in-Long.ensures.stands c.args.trees.now);
-    }
-
-pub read_part-returns-in_err-take_text-in-String : goal.read_part-returns-in_err-take_text-in-String
-read_part-returns-in_err-take_text-in-String g t c =
-    let p = err_from_is_err_and c.from_residual-in_err-take_text-in-String.result c.from_residual-in_err-take_text-in-String.ensures.1 in
-    rw (p.1, p.2)
-    (record {
-      same = c.take_text.ensures.same;
-      reads = scalar_fails _ _ _ _ scalars.String _ _ (site_of c.args.schema.now) _ _ _ (ap Some (sym c.in-String.is) ∙ c.shape_type.ensures) c.requires.due c.in_err-take_text-in-String.ensures.read;
-      adds = tt;
-    })
-
-pub read_part-returns-in_ok-take_text-in-String : goal.read_part-returns-in_ok-take_text-in-String
-read_part-returns-in_ok-take_text-in-String g t c =
-    let counts = g.met.D.ShapeDeserializer.counts (g.D.ShapeDeserializer.settings c.args.source.now) in
-    record {
-      same = c.take_text.ensures.same;
-      reads = scalar_made _ _ _ _ scalars.String _ _ (site_of c.args.schema.now) _ _ _ _ _ counts (ap Some (sym c.in-String.is) ∙ c.shape_type.ensures) c.in_ok-take_text-in-String.ensures.read (search rules) (made_shown _ _ _ _ _ _ c.text.result (c.text.ensures.ok (g.D.ShapeDeserializer.state c.args.source.now).input c.requires.sound)) c.text.ensures.err;
-      adds = made_added _ _ _ _ _ _ c.text.result (c.text.ensures.ok (g.D.ShapeDeserializer.state c.args.source.now).input c.requires.sound);
-    }
-
-pub read_part-returns-in_err-take_bytes-in-Blob : goal.read_part-returns-in_err-take_bytes-in-Blob
-read_part-returns-in_err-take_bytes-in-Blob g t c =
-    let p = err_from_is_err_and c.from_residual-in_err-take_bytes-in-Blob.result c.from_residual-in_err-take_bytes-in-Blob.ensures.1 in
-    rw (p.1, p.2)
-    (record {
-      same = c.take_bytes.ensures.same;
-      reads = scalar_fails _ _ _ _ scalars.Blob _ _ (site_of c.args.schema.now) _ _ _ (ap Some (sym c.in-Blob.is) ∙ c.shape_type.ensures) c.requires.due c.in_err-take_bytes-in-Blob.ensures.read;
-      adds = tt;
-    })
-
-pub read_part-returns-in_ok-take_bytes-in-Blob : goal.read_part-returns-in_ok-take_bytes-in-Blob
-read_part-returns-in_ok-take_bytes-in-Blob g t c =
-    let counts = g.met.D.ShapeDeserializer.counts (g.D.ShapeDeserializer.settings c.args.source.now) in
-    record {
-      same = c.take_bytes.ensures.same;
-      reads = scalar_made _ _ _ _ scalars.Blob _ _ (site_of c.args.schema.now) _ _ _ _ _ counts (ap Some (sym c.in-Blob.is) ∙ c.shape_type.ensures) c.in_ok-take_bytes-in-Blob.ensures.read (search rules) (made_shown _ _ _ _ _ _ c.bytes.result (c.bytes.ensures.ok (g.D.ShapeDeserializer.state c.args.source.now).input c.requires.sound)) c.bytes.ensures.err;
-      adds = made_added _ _ _ _ _ _ c.bytes.result (c.bytes.ensures.ok (g.D.ShapeDeserializer.state c.args.source.now).input c.requires.sound);
-    }
-
-pub read_part-text-requires : goal.read_part-text-requires
-read_part-text-requires g t c = record { stands = (_, c.requires.sound, c.in_ok-take_text-in-String.ensures.placed) }
-
-pub read_part-bytes-requires : goal.read_part-bytes-requires
-read_part-bytes-requires g t c = record { stands = (_, c.requires.sound, c.in_ok-take_bytes-in-Blob.ensures.placed) }
+pub read_item-read_part-requires : goal.read_item-read_part-requires
+read_item-read_part-requires = items.read_item-read_part-requires
 
 -- structures
 pub read_structure-returns-in_err-open_struct : goal.read_structure-returns-in_err-open_struct
@@ -250,29 +125,11 @@ read_list-loop-elements-init = lists.read_list-loop-elements-init
 pub read_list-returns-in_err-next_element : goal.read_list-returns-in_err-next_element
 read_list-returns-in_err-next_element = lists.read_list-returns-in_err-next_element
 
-pub read_list-returns-in_err-read_null : goal.read_list-returns-in_err-read_null
-read_list-returns-in_err-read_null = lists.read_list-returns-in_err-read_null
-
-pub read_list-returns-in_err-push_element : goal.read_list-returns-in_err-push_element
-read_list-returns-in_err-push_element = lists.read_list-returns-in_err-push_element
-
-pub read_list-loop-elements-preserved-then-is_null : goal.read_list-loop-elements-preserved-then-is_null
-read_list-loop-elements-preserved-then-is_null = lists.read_list-loop-elements-preserved-then-is_null
-
-pub read_list-returns-in_err-number : goal.read_list-returns-in_err-number
-read_list-returns-in_err-number = lists.read_list-returns-in_err-number
-
-pub read_list-returns-in_err-push_element-2 : goal.read_list-returns-in_err-push_element-2
-read_list-returns-in_err-push_element-2 = lists.read_list-returns-in_err-push_element-2
-
-pub read_list-loop-elements-preserved-in-Continue-branch-6 : goal.read_list-loop-elements-preserved-in-Continue-branch-6
-read_list-loop-elements-preserved-in-Continue-branch-6 = lists.read_list-loop-elements-preserved-in-Continue-branch-6
-
 pub read_list-returns-in_err-item : goal.read_list-returns-in_err-item
 read_list-returns-in_err-item = lists.read_list-returns-in_err-item
 
-pub read_list-returns-in_err-push_element-3 : goal.read_list-returns-in_err-push_element-3
-read_list-returns-in_err-push_element-3 = lists.read_list-returns-in_err-push_element-3
+pub read_list-returns-in_err-push_element : goal.read_list-returns-in_err-push_element
+read_list-returns-in_err-push_element = lists.read_list-returns-in_err-push_element
 
 pub read_list-loop-elements-preserved : goal.read_list-loop-elements-preserved
 read_list-loop-elements-preserved = lists.read_list-loop-elements-preserved
@@ -280,17 +137,14 @@ read_list-loop-elements-preserved = lists.read_list-loop-elements-preserved
 pub read_list-returns : goal.read_list-returns
 read_list-returns = lists.read_list-returns
 
-pub read_list-loop-elements-smaller-then-is_null : goal.read_list-loop-elements-smaller-then-is_null
-read_list-loop-elements-smaller-then-is_null = lists.read_list-loop-elements-smaller-then-is_null
-
-pub read_list-loop-elements-smaller-in-Continue-branch-6 : goal.read_list-loop-elements-smaller-in-Continue-branch-6
-read_list-loop-elements-smaller-in-Continue-branch-6 = lists.read_list-loop-elements-smaller-in-Continue-branch-6
-
 pub read_list-loop-elements-smaller : goal.read_list-loop-elements-smaller
 read_list-loop-elements-smaller = lists.read_list-loop-elements-smaller
 
 pub read_list-no_elements-elements-requires : goal.read_list-no_elements-elements-requires
 read_list-no_elements-elements-requires = lists.read_list-no_elements-elements-requires
+
+pub read_list-read_item-requires : goal.read_list-read_item-requires
+read_list-read_item-requires = lists.read_list-read_item-requires
 
 pub read_list-push_element-requires-clause-sound : goal.read_list-push_element-requires-clause-sound
 read_list-push_element-requires-clause-sound = lists.read_list-push_element-requires-clause-sound
@@ -300,27 +154,6 @@ read_list-push_element-requires-clause-begun = lists.read_list-push_element-requ
 
 pub read_list-push_element-requires-clause-stands : goal.read_list-push_element-requires-clause-stands
 read_list-push_element-requires-clause-stands = lists.read_list-push_element-requires-clause-stands
-
-pub read_list-push_element-requires-in-Long-clause-sound : goal.read_list-push_element-requires-in-Long-clause-sound
-read_list-push_element-requires-in-Long-clause-sound = lists.read_list-push_element-requires-in-Long-clause-sound
-
-pub read_list-push_element-requires-in-Long-clause-begun : goal.read_list-push_element-requires-in-Long-clause-begun
-read_list-push_element-requires-in-Long-clause-begun = lists.read_list-push_element-requires-in-Long-clause-begun
-
-pub read_list-push_element-requires-in-Long-clause-stands : goal.read_list-push_element-requires-in-Long-clause-stands
-read_list-push_element-requires-in-Long-clause-stands = lists.read_list-push_element-requires-in-Long-clause-stands
-
-pub read_list-read_part-requires : goal.read_list-read_part-requires
-read_list-read_part-requires = lists.read_list-read_part-requires
-
-pub read_list-push_element-requires-in_default-kind-clause-sound : goal.read_list-push_element-requires-in_default-kind-clause-sound
-read_list-push_element-requires-in_default-kind-clause-sound = lists.read_list-push_element-requires-in_default-kind-clause-sound
-
-pub read_list-push_element-requires-in_default-kind-clause-begun : goal.read_list-push_element-requires-in_default-kind-clause-begun
-read_list-push_element-requires-in_default-kind-clause-begun = lists.read_list-push_element-requires-in_default-kind-clause-begun
-
-pub read_list-push_element-requires-in_default-kind-clause-stands : goal.read_list-push_element-requires-in_default-kind-clause-stands
-read_list-push_element-requires-in_default-kind-clause-stands = lists.read_list-push_element-requires-in_default-kind-clause-stands
 
 pub read_list-list-requires-clause-sound : goal.read_list-list-requires-clause-sound
 read_list-list-requires-clause-sound = lists.read_list-list-requires-clause-sound
@@ -338,20 +171,11 @@ read_map-loop-entries-init = maps.read_map-loop-entries-init
 pub read_map-returns-in_err-key : goal.read_map-returns-in_err-key
 read_map-returns-in_err-key = maps.read_map-returns-in_err-key
 
-pub read_map-returns-in_err-read_null : goal.read_map-returns-in_err-read_null
-read_map-returns-in_err-read_null = maps.read_map-returns-in_err-read_null
-
-pub read_map-returns-in_err-set_entry : goal.read_map-returns-in_err-set_entry
-read_map-returns-in_err-set_entry = maps.read_map-returns-in_err-set_entry
-
-pub read_map-loop-entries-preserved-then-is_null : goal.read_map-loop-entries-preserved-then-is_null
-read_map-loop-entries-preserved-then-is_null = maps.read_map-loop-entries-preserved-then-is_null
-
 pub read_map-returns-in_err-value : goal.read_map-returns-in_err-value
 read_map-returns-in_err-value = maps.read_map-returns-in_err-value
 
-pub read_map-returns-in_err-set_entry-2 : goal.read_map-returns-in_err-set_entry-2
-read_map-returns-in_err-set_entry-2 = maps.read_map-returns-in_err-set_entry-2
+pub read_map-returns-in_err-set_entry : goal.read_map-returns-in_err-set_entry
+read_map-returns-in_err-set_entry = maps.read_map-returns-in_err-set_entry
 
 pub read_map-loop-entries-preserved : goal.read_map-loop-entries-preserved
 read_map-loop-entries-preserved = maps.read_map-loop-entries-preserved
@@ -359,14 +183,14 @@ read_map-loop-entries-preserved = maps.read_map-loop-entries-preserved
 pub read_map-returns : goal.read_map-returns
 read_map-returns = maps.read_map-returns
 
-pub read_map-loop-entries-smaller-then-is_null : goal.read_map-loop-entries-smaller-then-is_null
-read_map-loop-entries-smaller-then-is_null = maps.read_map-loop-entries-smaller-then-is_null
-
 pub read_map-loop-entries-smaller : goal.read_map-loop-entries-smaller
 read_map-loop-entries-smaller = maps.read_map-loop-entries-smaller
 
 pub read_map-no_entries-entries-requires : goal.read_map-no_entries-entries-requires
 read_map-no_entries-entries-requires = maps.read_map-no_entries-entries-requires
+
+pub read_map-read_item-requires : goal.read_map-read_item-requires
+read_map-read_item-requires = maps.read_map-read_item-requires
 
 pub read_map-set_entry-requires-clause-key : goal.read_map-set_entry-requires-clause-key
 read_map-set_entry-requires-clause-key = maps.read_map-set_entry-requires-clause-key
@@ -376,18 +200,6 @@ read_map-set_entry-requires-clause-begun = maps.read_map-set_entry-requires-clau
 
 pub read_map-set_entry-requires-clause-stands : goal.read_map-set_entry-requires-clause-stands
 read_map-set_entry-requires-clause-stands = maps.read_map-set_entry-requires-clause-stands
-
-pub read_map-read_part-requires : goal.read_map-read_part-requires
-read_map-read_part-requires = maps.read_map-read_part-requires
-
-pub read_map-set_entry-requires-else-sparse-clause-key : goal.read_map-set_entry-requires-else-sparse-clause-key
-read_map-set_entry-requires-else-sparse-clause-key = maps.read_map-set_entry-requires-else-sparse-clause-key
-
-pub read_map-set_entry-requires-else-sparse-clause-begun : goal.read_map-set_entry-requires-else-sparse-clause-begun
-read_map-set_entry-requires-else-sparse-clause-begun = maps.read_map-set_entry-requires-else-sparse-clause-begun
-
-pub read_map-set_entry-requires-else-sparse-clause-stands : goal.read_map-set_entry-requires-else-sparse-clause-stands
-read_map-set_entry-requires-else-sparse-clause-stands = maps.read_map-set_entry-requires-else-sparse-clause-stands
 
 pub read_map-map-requires-clause-sound : goal.read_map-map-requires-clause-sound
 read_map-map-requires-clause-sound = maps.read_map-map-requires-clause-sound

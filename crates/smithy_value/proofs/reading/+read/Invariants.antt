@@ -7,16 +7,16 @@ use Rattle.smithy_schema.proofs.ReadMaps.{map_value}
 use Rattle.smithy_value.proofs.HalfRead.{HalfRead}
 use Rattle.smithy_value.proofs.reading.+read.Given as goal
 
--- twice the containers that may still be opened
+-- thrice the containers that may still be opened, as a container's item is read as a part, and this as a container
 abbrev pub decreases-read_part : goal.decreases-read_part
 decreases-read_part g l =
     let d = g.D.ShapeDeserializer in
-    2 * ((d.reading (d.settings l.source.now)).max_depth - depth (d.state l.source.now)) + 1
+    3 * ((d.reading (d.settings l.source.now)).max_depth - depth (d.state l.source.now)) + 1
 
 abbrev pub decreases-read_structure : goal.decreases-read_structure
 decreases-read_structure g l =
     let d = g.D.ShapeDeserializer in
-    2 * ((d.reading (d.settings l.source.now)).max_depth - depth (d.state l.source.now))
+    3 * ((d.reading (d.settings l.source.now)).max_depth - depth (d.state l.source.now))
 
 -- the members that were read, in both readings
 abbrev pub invariant-read_structure-loop-members : goal.invariant-read_structure-loop-members
@@ -38,7 +38,7 @@ decreases-read_structure-loop-members g l =
 abbrev pub decreases-read_list : goal.decreases-read_list
 decreases-read_list g l =
     let d = g.D.ShapeDeserializer in
-    2 * ((d.reading (d.settings l.source.now)).max_depth - depth (d.state l.source.now))
+    3 * ((d.reading (d.settings l.source.now)).max_depth - depth (d.state l.source.now))
 
 -- the elements that were read, in both readings
 abbrev pub invariant-read_list-loop-elements : goal.invariant-read_list-loop-elements
@@ -60,12 +60,12 @@ decreases-read_list-loop-elements g l =
 abbrev pub decreases-read_union : goal.decreases-read_union
 decreases-read_union g l =
     let d = g.D.ShapeDeserializer in
-    2 * ((d.reading (d.settings l.source.now)).max_depth - depth (d.state l.source.now))
+    3 * ((d.reading (d.settings l.source.now)).max_depth - depth (d.state l.source.now))
 
 abbrev pub decreases-read_map : goal.decreases-read_map
 decreases-read_map g l =
     let d = g.D.ShapeDeserializer in
-    2 * ((d.reading (d.settings l.source.now)).max_depth - depth (d.state l.source.now))
+    3 * ((d.reading (d.settings l.source.now)).max_depth - depth (d.state l.source.now))
 
 -- the entries that were read, in both readings
 abbrev pub invariant-read_map-loop-entries : goal.invariant-read_map-loop-entries
@@ -83,3 +83,8 @@ decreases-read_map-loop-entries g l =
     let d = g.D.ShapeDeserializer in
     let s = d.state l.source in
     (d.reading (d.settings l.source)).wire.left s.input s.at s.inner.mark
+
+abbrev pub decreases-read_item : goal.decreases-read_item
+decreases-read_item g l =
+    let d = g.D.ShapeDeserializer in
+    3 * ((d.reading (d.settings l.source.now)).max_depth - depth (d.state l.source.now)) + 2
