@@ -5,8 +5,8 @@ mod TakenLemmas
 mod BodiesWritten
 mod Unfits
 mod ValuesPass
+mod Children
 pub mod Mapped
-mod NullsHeld
 mod PoolBodies
 mod DepthFacts
 mod WideBodies

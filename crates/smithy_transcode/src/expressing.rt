@@ -1,21 +1,19 @@
 //! What a wire can't express.
-ghost use Rattle.std.specs.Prelude.{◌≡◌, ℕ, List, ◌&&◌, ◌||◌, not, None, true, false};
+ghost use Rattle.std.specs.Prelude.{◌≡◌, ◌&&◌, ◌||◌, not, None, true};
 ghost use Rattle.smithy_shapes.specs.Accepted.{IsAccepted};
 ghost use Rattle.smithy_shapes.specs.Fits.{Fits, FitsOr};
 ghost use Rattle.smithy_shapes.specs.Holding.{may_hold};
-ghost use Rattle.smithy_shapes.specs.ScalarTest.{scalars_pass};
 ghost use Rattle.smithy_shapes.specs.Site.{site_of};
 ghost use Rattle.smithy_declarations.specs.Table.{IsStructure, is_document_target, kind_of, shape_place};
 ghost use Rattle.smithy_shapes.specs.Targets.{is_timestamp_target};
-ghost use Rattle.smithy_query_codec.specs.Nulls.{holds_null as null_in};
+ghost use Rattle.smithy_query_codec.specs.Nulls.{holds_null};
 ghost use Rattle.smithy_value.specs.View.{view};
 ghost use Rattle.smithy_transcode.specs.Taken.{IsTaken};
-ghost use Rattle.smithy_transcode.specs.Wires.{wire_of, has_nulls, holds_document, unfit as unfit_for, unfit_at};
+ghost use Rattle.smithy_transcode.specs.Wires.{wire_of, holds_document, unfit as unfit_for, unfit_at};
 ghost use Rattle.smithy_transcode.specs.Private.Positions.{CanCount};
 ghost use Rattle.smithy_transcode.specs.Private.Standing.{IsValueAt};
-ghost use Rattle.smithy_transcode.specs.Private.ValueTest.{test_view};
+ghost use Rattle.smithy_transcode.specs.Private.ValueTest.{AnswersTest};
 
-use crate::nulls::holds_null;
 use crate::value_test::{InstantTest, ValueTest, test_of, value_passes};
 use crate::wire::{Unfit, Wire};
 use smithy_schema::{Schema, ShapeRef, Shapes};
@@ -45,17 +43,18 @@ pub fn expressible_at(schema: &Schema<'_>, value: &Value<'_>, to: &Wire) -> Opti
     unfit::<ValueTrees<'_>>(&ValueTrees::new(), schema, value, to)
 }
 
-// A value of the schema's place may fail the test: a timestamp, or a document where none passes, may stand in it.
-fn can_fail(schema: &Schema<'_>, test: ValueTest) -> bool
-    ensures { result ≡ (may_hold is_timestamp_target (site_of schema.now) || not test.documents && may_hold is_document_target (site_of schema.now)) }
+// A value of the schema's place may fail the test: a timestamp, a document where none passes, or a null where none does, may
+// stand in it.
+fn can_fail(schema: &Schema<'_>, test: &ValueTest) -> bool
+    ensures { result ≡ (not test.now.nulls || may_hold is_timestamp_target (site_of schema.now) || not test.now.documents && may_hold is_document_target (site_of schema.now)) }
 {
-    schema.may_hold_timestamps() || !test.documents && schema.may_hold_documents()
+    !test.nulls || schema.may_hold_timestamps() || !test.documents && schema.may_hold_documents()
 }
 
 // The value passes the test. It is gone through only where it can fail.
-fn passes<P: Trees>(trees: &P, schema: &Schema<'_>, value: &P::Tree, test: ValueTest) -> bool
-    requires { IsValueAt P.sound P.stands P.view trees.now (site_of schema.now) value.now }
-    ensures { result ≡ scalars_pass (test_view test) (site_of schema.now) (P.view trees.now value.now) }
+fn passes<P: Trees>(trees: &P, schema: &Schema<'_>, value: &P::Tree, test: &ValueTest) -> bool
+    requires { IsValueAt (P.sound trees.now) (P.stands trees.now value.now) (site_of schema.now) (P.view trees.now value.now) }
+    ensures { AnswersTest test.now (site_of schema.now) (P.view trees.now value.now) result }
 {
     if can_fail(schema, test) {
         return value_passes::<P>(trees, schema, value, test);
@@ -63,59 +62,61 @@ fn passes<P: Trees>(trees: &P, schema: &Schema<'_>, value: &P::Tree, test: Value
     true
 }
 
-// A document stands in the value, and none passes the test of the wire.
-fn lacks_document<P: Trees>(
+// A document stands in the value, and none passes the test.
+fn has_unwritable_document<P: Trees>(
     trees: &P,
     schema: &Schema<'_>,
     value: &P::Tree,
-    test: ValueTest,
+    test: &ValueTest,
 ) -> bool
-    requires { IsValueAt P.sound P.stands P.view trees.now (site_of schema.now) value.now }
-    ensures { result ≡ (not test.documents && holds_document (site_of schema.now) (P.view trees.now value.now)) }
+    requires { IsValueAt (P.sound trees.now) (P.stands trees.now value.now) (site_of schema.now) (P.view trees.now value.now) }
+    ensures { result ≡ (not test.now.documents && holds_document (site_of schema.now) (P.view trees.now value.now)) }
 {
-    let without_documents = ValueTest {
+    let any_but_documents = ValueTest {
         instants: InstantTest::Any,
         documents: false,
+        nulls: true,
     };
-    !test.documents && !value_passes::<P>(trees, schema, value, without_documents)
+    !test.documents && !value_passes::<P>(trees, schema, value, &any_but_documents)
 }
 
-// A null stands in the value, and the wire has none. Only where a form is wanted, the value is gone through for nulls.
-fn lacks_null<P: Trees>(trees: &P, value: &P::Tree, to: &Wire) -> bool
-    requires sound { (i : List ℕ) × P.sound trees.now i }
-    requires stands { P.stands trees.now value.now }
-    ensures null { result ≡ (not (has_nulls (wire_of to.now)) && null_in (P.view trees.now value.now)) }
-    ensures positions { result ≡ false → CanCount (wire_of to.now) (P.view trees.now value.now) }
+// A null or a document stands in the value, and no null passes the test.
+fn has_unwritable_null<P: Trees>(
+    trees: &P,
+    schema: &Schema<'_>,
+    value: &P::Tree,
+    test: &ValueTest,
+) -> bool
+    requires { IsValueAt (P.sound trees.now) (P.stands trees.now value.now) (site_of schema.now) (P.view trees.now value.now) }
+    ensures { result ≡ (not test.now.nulls && (holds_document (site_of schema.now) (P.view trees.now value.now) || holds_null (P.view trees.now value.now))) }
 {
-    match to {
-        Wire::Json { .. } | Wire::Cbor { .. } => false,
-        Wire::Query { .. } => holds_null::<P>(trees, value),
-    }
+    let any_scalar = ValueTest {
+        instants: InstantTest::Any,
+        documents: false,
+        nulls: false,
+    };
+    !test.nulls && !value_passes::<P>(trees, schema, value, &any_scalar)
 }
 
-// Why the wire can't express a value of any tree. Where it can, and no form is wanted, the value is gone through once at most.
+// Why the wire can't express a value of any tree. Where it can, the value is gone through once at most.
 pub(crate) fn unfit<P: Trees>(
     trees: &P,
     schema: &Schema<'_>,
     value: &P::Tree,
     to: &Wire,
 ) -> Option<Unfit>
-    requires { IsValueAt P.sound P.stands P.view trees.now (site_of schema.now) value.now }
+    requires { IsValueAt (P.sound trees.now) (P.stands trees.now value.now) (site_of schema.now) (P.view trees.now value.now) }
     ensures unfit { result ≡ unfit_at (wire_of to.now) (site_of schema.now) (P.view trees.now value.now) }
     ensures positions { result ≡ None → CanCount (wire_of to.now) (P.view trees.now value.now) }
 {
     let test = test_of(to);
-    if passes::<P>(trees, schema, value, test) {
-        return if lacks_null::<P>(trees, value, to) {
-            Some(Unfit::Null)
-        } else {
-            None
-        };
+    if passes::<P>(trees, schema, value, &test) {
+        return None;
     }
-    if lacks_document::<P>(trees, schema, value, test) {
+    if has_unwritable_document::<P>(trees, schema, value, &test) {
         return Some(Unfit::Document);
     }
-    if lacks_null::<P>(trees, value, to) {
+    if has_unwritable_null::<P>(trees, schema, value, &test) {
         Some(Unfit::Null)
     } else {
         Some(Unfit::Instant)

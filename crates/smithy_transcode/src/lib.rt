@@ -2,7 +2,6 @@
 #![tactic(auto)]
 
 mod expressing;
-mod nulls;
 mod pool_input;
 mod refusal;
 mod transcoding;

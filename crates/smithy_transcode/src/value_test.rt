@@ -1,14 +1,13 @@
-//! Tests of a value: which of its instants pass by the time form of their place, and whether documents do.
-ghost use Rattle.std.specs.Prelude.{◌≡◌, ℕ, List, map as mapped, true};
-ghost use Rattle.smithy_shapes.specs.Fits.{FitsOr};
-ghost use Rattle.smithy_shapes.specs.ScalarTest.{scalars_pass};
+//! Tests of a value: which of its instants pass by the time form of their place, and whether documents and null elements do.
+ghost use Rattle.std.specs.Prelude.{◌≡◌, length, map as mapped};
 ghost use Rattle.smithy_shapes.specs.Site.{site_of};
 ghost use Rattle.smithy_declarations.specs.TimeForms.{format_of, form_or};
 ghost use Rattle.smithy_declarations.specs.Value.{instant, list, map, structure, union, values_of};
+ghost use Rattle.smithy_tree.specs.Items.{whole_values};
 ghost use Rattle.smithy_value.specs.Tree.{entries_view, members_view, part_view, Each, EntriesStand, MembersStand, PartStands};
 ghost use Rattle.smithy_transcode.specs.Private.Standing.{IsValueAt};
-ghost use Rattle.smithy_transcode.specs.Private.ValueTest.{instant_passes as passes_as, test_view};
-ghost use Rattle.smithy_transcode.specs.Wires.{wire_of, holds};
+ghost use Rattle.smithy_transcode.specs.Private.ValueTest.{AnswersTest, instant_passes as passes_as, test_view};
+ghost use Rattle.smithy_transcode.specs.Wires.{wire_of, has_nulls, holds};
 
 use crate::wire::Wire;
 use smithy_schema::{Schema, TimestampFormat};
@@ -26,29 +25,35 @@ pub(crate) enum InstantTest {
     InForm(TimestampFormat),
 }
 
-/// A test of values. A value passes where each of its instants does, and where `documents` is false no part of it is a document.
+/// A test of values. A value passes where each of its instants does, where `documents` is false no part of it is a document, and
+/// where `nulls` is false no element of it is null.
 #[derive(Clone, Copy)]
 pub(crate) struct ValueTest {
     pub instants: InstantTest,
     pub documents: bool,
+    pub nulls: bool,
 }
 
 // The test of a wire: what the wire writes for a value that passes stands for exactly that value.
 pub(crate) fn test_of(wire: &Wire) -> ValueTest
-    ensures { test_view result ≡ holds (wire_of wire.now) }
+    ensures holds { test_view result ≡ holds (wire_of wire.now) }
+    ensures nulls { result.nulls ≡ has_nulls (wire_of wire.now) }
 {
     match wire {
         Wire::Json { .. } => ValueTest {
             instants: InstantTest::InForm(TimestampFormat::EpochSeconds),
             documents: true,
+            nulls: true,
         },
         Wire::Cbor { .. } => ValueTest {
             instants: InstantTest::WholeSeconds,
             documents: false,
+            nulls: true,
         },
         Wire::Query { .. } => ValueTest {
             instants: InstantTest::InForm(TimestampFormat::DateTime),
             documents: false,
+            nulls: false,
         },
     }
 }
@@ -71,15 +76,16 @@ fn instant_passes(schema: &Schema<'_>, value: DateTime, test: InstantTest) -> bo
     }
 }
 
-// Whether a value of the schema's place, or a null element, passes the test.
+// Whether a value of the schema's place, or a null element, passes the test. Where it does and null elements don't, each of its
+// lists and maps was counted. It has fewer than 2^64 parts, as they are in memory.
 pub(crate) fn value_passes<P: Trees>(
     trees: &P,
     schema: &Schema<'_>,
     value: &P::Tree,
-    test: ValueTest,
+    test: &ValueTest,
 ) -> bool
-    requires { IsValueAt P.sound P.stands P.view trees.now (site_of schema.now) value.now }
-    ensures { result ≡ scalars_pass (test_view test) (site_of schema.now) (P.view trees.now value.now) }
+    requires { IsValueAt (P.sound trees.now) (P.stands trees.now value.now) (site_of schema.now) (P.view trees.now value.now) }
+    ensures { AnswersTest test.now (site_of schema.now) (P.view trees.now value.now) result }
 {
     part_passes::<P>(trees, schema, &trees.part(value), test)
 }
@@ -91,28 +97,38 @@ fn part_passes<P: Trees>(
     trees: &P,
     schema: &Schema<'_>,
     part: &Part<'_, P::Tree>,
-    test: ValueTest,
+    test: &ValueTest,
 ) -> bool
-    requires sound { (i : List ℕ) × P.sound trees.now i }
-    requires stands { PartStands (P.stands trees.now) part.now }
-    requires fits { FitsOr schema.now.shapes.now schema.now.place true (part_view (P.view trees.now) (P.key_of trees.now) P.position_of part.now) }
-    ensures { result ≡ scalars_pass (test_view test) (site_of schema.now) (part_view (P.view trees.now) (P.key_of trees.now) P.position_of part.now) }
+    requires { IsValueAt (P.sound trees.now) (PartStands (P.stands trees.now) part.now) (site_of schema.now) (part_view (P.view trees.now) (P.key_of trees.now) P.position_of part.now) }
+    ensures { AnswersTest test.now (site_of schema.now) (part_view (P.view trees.now) (P.key_of trees.now) P.position_of part.now) result }
 {
     match part {
         Part::Timestamp(value) => instant_passes(schema, *value, test.instants),
         Part::Document(_) => test.documents,
-        Part::Boolean(_)
-        | Part::Whole(_)
-        | Part::Text(_)
-        | Part::Bytes(_)
-        | Part::Decimal(_, _)
-        | Part::Numbers(_)
-        | Part::Null => true,
+        Part::Null => test.nulls,
+        Part::Boolean(_) | Part::Whole(_) | Part::Text(_) | Part::Bytes(_) | Part::Decimal(_, _) =>
+            true,
+        Part::Numbers(numbers) => numbers_pass(schema, *numbers, test),
         Part::List(elements) => elements_pass::<P>(trees, schema, *elements, test),
         Part::Map(entries) => entries_pass::<P>(trees, schema, entries, test),
         Part::Structure(members) => members_pass::<P>(trees, schema, members, test),
         Part::Union(index, value) => union_passes::<P>(trees, schema, *index, *value, test),
     }
+}
+
+// The number of elements, which are in memory.
+fn count<T>(elements: &[T]) -> usize
+    ensures { result ≡ length elements.now }
+{
+    elements.len()
+}
+
+// Whole numbers pass each test, and they are in memory, so there are fewer than 2^64 of them.
+fn numbers_pass(schema: &Schema<'_>, numbers: &[i64], test: &ValueTest) -> bool
+    ensures { AnswersTest test.now (site_of schema.now) (list (values_of (whole_values numbers.now))) result }
+{
+    let _count = count(numbers);
+    true
 }
 
 #[cycle(passing)]
@@ -122,12 +138,10 @@ fn union_passes<P: Trees>(
     schema: &Schema<'_>,
     index: u32,
     value: &P::Tree,
-    test: ValueTest,
+    test: &ValueTest,
 ) -> bool
-    requires sound { (i : List ℕ) × P.sound trees.now i }
-    requires stands { P.stands trees.now value.now }
-    requires fits { FitsOr schema.now.shapes.now schema.now.place true (union index (P.view trees.now value.now)) }
-    ensures { result ≡ scalars_pass (test_view test) (site_of schema.now) (union index (P.view trees.now value.now)) }
+    requires { IsValueAt (P.sound trees.now) (P.stands trees.now value.now) (site_of schema.now) (union index (P.view trees.now value.now)) }
+    ensures { AnswersTest test.now (site_of schema.now) (union index (P.view trees.now value.now)) result }
 {
     let Some(member) = schema.member_at(index) else {
         unreachable!()
@@ -141,17 +155,16 @@ fn elements_pass<P: Trees>(
     trees: &P,
     schema: &Schema<'_>,
     elements: &[P::Tree],
-    test: ValueTest,
+    test: &ValueTest,
 ) -> bool
-    requires sound { (i : List ℕ) × P.sound trees.now i }
-    requires stands { Each (P.stands trees.now) elements.now }
-    requires fits { FitsOr schema.now.shapes.now schema.now.place true (list (values_of (mapped (P.view trees.now) elements.now))) }
-    ensures { result ≡ scalars_pass (test_view test) (site_of schema.now) (list (values_of (mapped (P.view trees.now) elements.now))) }
+    requires { IsValueAt (P.sound trees.now) (Each (P.stands trees.now) elements.now) (site_of schema.now) (list (values_of (mapped (P.view trees.now) elements.now))) }
+    ensures { AnswersTest test.now (site_of schema.now) (list (values_of (mapped (P.view trees.now) elements.now))) result }
 {
     let Some(member) = schema.member() else {
         unreachable!()
     };
     let element_schema = member.nameless();
+    let _count = count(elements);
     for element in elements {
         if !part_passes::<P>(trees, &element_schema, &trees.part(element), test) {
             return false;
@@ -166,17 +179,16 @@ fn entries_pass<P: Trees>(
     trees: &P,
     schema: &Schema<'_>,
     entries: &Entries<'_, P::Tree>,
-    test: ValueTest,
+    test: &ValueTest,
 ) -> bool
-    requires sound { (i : List ℕ) × P.sound trees.now i }
-    requires stands { EntriesStand (P.stands trees.now) entries.now }
-    requires fits { FitsOr schema.now.shapes.now schema.now.place true (map (entries_view (P.view trees.now) (P.key_of trees.now) entries.now)) }
-    ensures { result ≡ scalars_pass (test_view test) (site_of schema.now) (map (entries_view (P.view trees.now) (P.key_of trees.now) entries.now)) }
+    requires { IsValueAt (P.sound trees.now) (EntriesStand (P.stands trees.now) entries.now) (site_of schema.now) (map (entries_view (P.view trees.now) (P.key_of trees.now) entries.now)) }
+    ensures { AnswersTest test.now (site_of schema.now) (map (entries_view (P.view trees.now) (P.key_of trees.now) entries.now)) result }
 {
     let Some(member) = schema.member() else {
         unreachable!()
     };
     let value_schema = member.nameless();
+    let _count = entries.len();
     let mut left = entries.iter();
     while let Some((_, value)) = left.next_entry(trees) {
         if !part_passes::<P>(trees, &value_schema, &trees.part(value), test) {
@@ -192,12 +204,10 @@ fn members_pass<P: Trees>(
     trees: &P,
     schema: &Schema<'_>,
     members: &Members<'_, P::Tree>,
-    test: ValueTest,
+    test: &ValueTest,
 ) -> bool
-    requires sound { (i : List ℕ) × P.sound trees.now i }
-    requires stands { MembersStand (P.stands trees.now) members.now }
-    requires fits { FitsOr schema.now.shapes.now schema.now.place true (structure (members_view (P.view trees.now) P.position_of members.now)) }
-    ensures { result ≡ scalars_pass (test_view test) (site_of schema.now) (structure (members_view (P.view trees.now) P.position_of members.now)) }
+    requires { IsValueAt (P.sound trees.now) (MembersStand (P.stands trees.now) members.now) (site_of schema.now) (structure (members_view (P.view trees.now) P.position_of members.now)) }
+    ensures { AnswersTest test.now (site_of schema.now) (structure (members_view (P.view trees.now) P.position_of members.now)) result }
 {
     let mut left = members.iter();
     while let Some((position, member)) = left.next_member::<P>() {

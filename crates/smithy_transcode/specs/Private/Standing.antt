@@ -4,8 +4,8 @@ use Rattle.smithy_shapes.specs.Fits.{FitsOr}
 use Rattle.smithy_shapes.specs.Site.{Site}
 use Rattle.smithy_declarations.specs.Value.{Value}
 
--- the tree stands in the store p, which is one of some input, and is a value of the site or a null element
-pub record IsValueAt {P T : Type 0} (is_of : P → List ℕ → Type 0) (stands_in : P → T → Type 0) (view : P → T → Value) (p : P) (site : Site) (x : T) : Type 0 where
-  pub sound : (i : List ℕ) × is_of p i
-  pub stands : stands_in p x
-  pub fits : FitsOr site.table site.place true (view p x)
+-- a tree of a store of some input, or the parts of one, that is a value of the site or a null element
+pub record IsValueAt (is_of : List ℕ → Type 0) (in_store : Type 0) (site : Site) (v : Value) : Type 0 where
+  pub sound : (i : List ℕ) × is_of i
+  pub stands : in_store
+  pub fits : FitsOr site.table site.place true v

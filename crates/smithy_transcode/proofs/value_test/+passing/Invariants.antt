@@ -1,12 +1,11 @@
-use Rattle.std.proofs.Common.{◌≡◌, ◌≤◌, ◌+◌, ◌*◌, drop, map as mapped}
-use Rattle.smithy_shapes.specs.Fits.{ElementsFit, EntriesFit, MembersFit}
-use Rattle.smithy_shapes.specs.ScalarTest.{elements_pass, entries_pass, members_pass}
-use Rattle.smithy_shapes.specs.Site.{site_of, kind_at, element_of, value_of}
-use Rattle.smithy_declarations.specs.Value.{list, map, structure, union, values_of, nesting, elements_nesting, entries_nesting, members_nesting}
+use Rattle.std.proofs.Common.{◌+◌, ◌*◌, drop, map as mapped}
+use Rattle.smithy_shapes.specs.Fits.{MembersFit}
+use Rattle.smithy_shapes.specs.Site.{site_of, kind_at}
+use Rattle.smithy_declarations.specs.Value.{list, map, structure, union, values_of, nesting}
 use Rattle.smithy_value.specs.Tree.{entries_view, entries_left, members_view, members_left, part_view, Each, EntriesLeftStand, MembersLeftStand}
-use Rattle.smithy_transcode.specs.Private.ValueTest.{test_view}
 use Rattle.smithy_value.proofs.Maps.{count as count_entries}
 use Rattle.smithy_value.proofs.Structures.{count}
+use Rattle.smithy_transcode.proofs.Children.{IsLeft, element_children, entry_children, member_children}
 use Rattle.smithy_transcode.proofs.value_test.+passing.Given as goal
 
 -- twice the containers that stand in one another
@@ -25,33 +24,26 @@ decreases-entries_pass g l = 2 * nesting (map (entries_view (g.P.Trees.view l.tr
 abbrev pub decreases-members_pass : goal.decreases-members_pass
 decreases-members_pass g l = 2 * nesting (structure (members_view (g.P.Trees.view l.trees.now) g.P.Trees.position_of l.members.now))
 
--- all pass where those pass that are left
+-- what the children that are left answer, the container does
 abbrev pub invariant-elements_pass-loop-element :
     goal.invariant-elements_pass-loop-element
 invariant-elements_pass-loop-element g l =
     let site = site_of l.schema in
-    let test = test_view l.test in
-    let all = values_of (mapped (g.P.Trees.view l.trees) l.elements) in
-    let now = values_of (mapped (g.P.Trees.view l.trees) (drop l.element-index l.elements)) in
+    let view = mapped (g.P.Trees.view l.trees) in
     record {
-      held : elements_pass test (element_of site) all ≡ elements_pass test (element_of site) now;
+      left : IsLeft l.test site (list (values_of (view l.elements))) (element_children site (view (drop l.element-index l.elements)));
       stands : Each (g.P.Trees.stands l.trees) (drop l.element-index l.elements);
-      fits : ElementsFit site.table (kind_at site) now;
-      nests : elements_nesting now ≤ elements_nesting all;
     }
 
 abbrev pub invariant-entries_pass-loop-value :
     goal.invariant-entries_pass-loop-value
 invariant-entries_pass-loop-value g l =
     let site = site_of l.schema in
-    let test = test_view l.test in
-    let all = entries_view (g.P.Trees.view l.trees) (g.P.Trees.key_of l.trees) l.entries in
-    let now = entries_left (g.P.Trees.view l.trees) (g.P.Trees.key_of l.trees) l.left in
+    let view = g.P.Trees.view l.trees in
+    let key = g.P.Trees.key_of l.trees in
     record {
-      held : entries_pass test (value_of site) all ≡ entries_pass test (value_of site) now;
+      left : IsLeft l.test site (map (entries_view view key l.entries)) (entry_children site (entries_left view key l.left));
       stands : EntriesLeftStand (g.P.Trees.stands l.trees) l.left;
-      fits : EntriesFit site.table (kind_at site) now;
-      nests : entries_nesting now ≤ entries_nesting all;
     }
 
 abbrev pub decreases-entries_pass-loop-value :
@@ -62,14 +54,12 @@ abbrev pub invariant-members_pass-loop-position :
     goal.invariant-members_pass-loop-position
 invariant-members_pass-loop-position g l =
     let site = site_of l.schema in
-    let test = test_view l.test in
-    let all = members_view (g.P.Trees.view l.trees) g.P.Trees.position_of l.members in
-    let now = members_left (g.P.Trees.view l.trees) g.P.Trees.position_of l.left in
+    let view = g.P.Trees.view l.trees in
+    let position = g.P.Trees.position_of in
     record {
-      held : members_pass test site all ≡ members_pass test site now;
+      left : IsLeft l.test site (structure (members_view view position l.members)) (member_children site (members_left view position l.left));
+      fits : MembersFit site.table (kind_at site) (members_left view position l.left);
       stands : MembersLeftStand (g.P.Trees.stands l.trees) l.left;
-      fits : MembersFit site.table (kind_at site) now;
-      nests : members_nesting now ≤ members_nesting all;
     }
 
 abbrev pub decreases-members_pass-loop-position :
