@@ -1,3 +1,4 @@
+pub mod Runs
 pub mod Errors
 pub mod Nodes
 pub mod Reading

@@ -1,5 +1,5 @@
 //! Reading a value as a schema directs.
-ghost use Rattle.std.specs.Prelude.{◌≡◌, ◌≤◌, length, Bool, true, false, IfOk, OnOk, IsErrOf, IsErr, string_bytes, FitsSigned};
+ghost use Rattle.std.specs.Prelude.{◌≡◌, ◌≤◌, length, take, Bool, true, false, IfOk, OnOk, IsErrOf, IsErr, string_bytes, FitsSigned};
 ghost use Rattle.std.specs.Int.{w128};
 ghost use Rattle.smithy_texts.specs.Numeral.{number};
 ghost use Rattle.smithy_texts.specs.Decimal.{mantissa, net_exponent};
@@ -15,6 +15,7 @@ ghost use Rattle.smithy_schema.specs.declared.error.SerdeError.TheVariants.{NoMe
 ghost use Rattle.smithy_schema.specs.Consuming.{ReadsEntries, by_member, by_element, by_key};
 ghost use Rattle.smithy_schema.specs.Sizes.{Sizes, TellsSize};
 ghost use Rattle.smithy_schema.specs.Elements.{ReadsList, items_of};
+ghost use Rattle.smithy_schema.specs.Runs.{ReadsInTurn};
 ghost use Rattle.smithy_schema.specs.TextMaps.{ReadsTexts, entries_of};
 
 use crate::consume::{ListConsumer, MapConsumer, StructConsumer};
@@ -98,6 +99,20 @@ pub trait ShapeDeserializer {
         requires within { (state self.old).inner.within ≡ in_list }
         ensures same { settings self.new ≡ settings self.old }
         ensures goes_on { GoesOnInList (reading (settings self.old)) (state self.old) (state self.new) result };
+
+    /// Reads the longs that come next in the list, each as by `next_element` and `read_long`, as many as there is room for. It answers
+    /// how many there were, which are the first in the room. It may stop before any element, and the element calls go on from there. It
+    /// takes no memory. A reader without a loop of its own reads none.
+    #[inline(always)]
+    fn read_longs(&mut self, _schema: &Schema<'_>, _room: &mut [i64]) -> usize
+        requires within { (state self.old).inner.within ≡ in_list }
+        ensures same { settings self.new ≡ settings self.old }
+        ensures room { length _room.new ≡ length _room.old }
+        ensures count { result ≤ length _room.new }
+        ensures reads { ReadsInTurn (reading (settings self.old)) (site_of _schema.now) scalars.Long (state self.old) (take result _room.new) (state self.new) }
+    {
+        0
+    }
 
     /// Enters the map that is due. Where a map begins here, it is `TooDeep` exactly at the greatest depth.
     fn open_map(&mut self, schema: &Schema<'_>) -> Result<(), SerdeError>

@@ -264,6 +264,22 @@ pub trait ShapeSerializer {
         self.end_list()
     }
 
+    /// Writes a list of whole numbers: it begins with its length, each number is written as by `write_long`, and it ends.
+    fn write_long_list(&mut self, schema: &Schema<'_>, values: &[i64]) -> Result<(), SerdeError>
+        requires place { IsList (kind_at (site_of schema.now)) }
+        ensures { Makes (write after (site_of schema.now) (list_of_wholes values.now) (state self.old)) (failed self.old) (state self.new) (failed self.new) result }
+    {
+        let Some(member) = schema.member() else {
+            unreachable!()
+        };
+        let element = member.nameless();
+        self.begin_list(schema, Some(values.len()))?;
+        for value in values {
+            self.write_long(&element, *value)?;
+        }
+        self.end_list()
+    }
+
     // No call takes back a byte.
     ghost grows: { (e : Event) (s t : State) → after e s ≡ Ok t → (more : List ℕ) × (out t ≡ out s ++ more) };
 
