@@ -73,7 +73,7 @@ date_stands (Some s) input at e (x, there, is) = seconds_stand x s input at e th
 
 -- ---- the instant of so many seconds
 
-fits_long : (s : ℤ) → FitsSigned w64 s → fits_signed 64 s ≡ true
+pub fits_long : (s : ℤ) → FitsSigned w64 s → fits_signed 64 s ≡ true
 fits_long s h = grind (arith, ints)
 
 pub seconds_mean : (s n : ℤ) → FitsSigned w64 s → n ≡ s *ℤ pos nanos_per_second → date_says (Some s) ≡ means (scalar_value (instant n))

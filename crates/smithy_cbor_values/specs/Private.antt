@@ -1,4 +1,5 @@
 -- Words that private clauses cite, and the proofs of the laws.
+pub mod LongRuns
 pub mod NextInContainer
 pub mod ScalarAtPlace
 pub mod Skipping

@@ -4,6 +4,7 @@
 pub mod container_size;
 pub mod instants;
 mod integers;
+pub mod long_runs;
 pub mod numbers;
 pub mod places;
 pub mod values;

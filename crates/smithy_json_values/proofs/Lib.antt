@@ -4,6 +4,7 @@ mod TypeFacts
 pub mod SpellingLemmas
 pub mod ScannedPlaces
 pub mod FirstBytePlaces
+mod LongRuns
 pub mod TypeLemmas
 pub mod FirstBytes
 pub mod ScannedStrings

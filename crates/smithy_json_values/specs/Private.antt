@@ -25,6 +25,7 @@ pub mod TokenLaws
 -- for the clauses of private functions
 pub mod PlacedTexts
 pub mod NextInContainer
+pub mod LongRuns
 pub mod ScalarAtPlace
 pub mod NumberSorts
 pub mod NumberAtPlace

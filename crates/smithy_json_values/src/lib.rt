@@ -5,6 +5,7 @@ pub mod documents;
 pub mod input;
 pub mod instants;
 pub mod integers;
+pub mod long_runs;
 pub mod mismatch;
 pub mod number_runs;
 pub mod numbers;
