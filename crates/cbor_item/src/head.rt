@@ -87,7 +87,7 @@ pub fn write_head(out: &mut Vec<u8>, major: u8, argument: u64) -> Result<(), All
 }
 
 /// Writes the head of an argument that its initial byte doesn't hold.
-#[inline(never)]
+#[inline(always)]
 fn write_long_head(out: &mut Vec<u8>, major: u8, argument: u64) -> Result<(), AllocError>
     requires major { major ≤ 7 }
     requires long { 24 ≤ argument }

@@ -4,19 +4,21 @@ ghost use Rattle.smithy_schema.specs.declared.error.SerdeError.TheVariants.{NoMe
 ghost use Rattle.smithy_cbor.specs.declared.error.EncodeError.TheVariants as encoding;
 ghost use Rattle.smithy_shapes.specs.Site.{site_of};
 ghost use Rattle.smithy_schema.specs.Writing.{Makes, WritesEvent, after_value, after_text, document_of};
+ghost use Rattle.smithy_schema.specs.Written.{list_of_wholes};
 ghost use Rattle.smithy_types.specs.Document.{whole_document};
 ghost use Rattle.smithy_types.specs.DocumentView.{document_view};
 ghost use Rattle.smithy_cbor.specs.Written.{text_bytes, big_integer_bytes};
-ghost use Rattle.smithy_cbor_body.specs.Canonical.{key_bytes};
+ghost use Rattle.smithy_cbor_body.specs.Canonical.{canonical_cbor, key_bytes};
 ghost use Rattle.smithy_cbor_body.specs.Codec.{held_settings};
 ghost use Rattle.smithy_cbor_body.specs.Body.{body_of, body_has_failed};
 ghost use Rattle.smithy_cbor_body.specs.Lengths.{may_end};
 ghost use Rattle.smithy_cbor_body.specs.Private.Beginning.{Begins};
-ghost use Rattle.smithy_cbor_body.specs.Writing.{BodyState, fresh_body, key_in, closed, where_taken, where_writable, body_after};
+ghost use Rattle.smithy_cbor_body.specs.Writing.{BodyState, fresh_body, key_in, closed, wrote, where_taken, where_writable, body_after};
 ghost use Rattle.smithy_wire.specs.OpenContainers.{after_end};
 
 use crate::lengths::{Length, begin_array, begin_map, begun, count_value, is_complete, write_end};
 use crate::settings::CborCodecSettings;
+use crate::whole_numbers::{write_whole_number, write_whole_numbers};
 use smithy_cbor::{EncodeError, Encoder};
 use smithy_schema::{FinishSerializer, Schema, SerdeError, ShapeSerializer};
 use smithy_types::{BigDecimal, BigInteger, DateTime, Document};
@@ -43,14 +45,6 @@ fn write_name(encoder: &mut Encoder, schema: &Schema<'_>) -> Result<(), AllocErr
         Some(name) => encoder.str(name),
         None => Ok(()),
     }
-}
-
-// Writes a whole number.
-#[tactic(auto, using(crate::proofs::WrittenLeaves::long_is_integer))]
-fn write_whole_number(encoder: &mut Encoder, value: i64) -> Result<(), AllocError>
-    ensures { OnOk result (encoder.new ≡ encoder.old ++ big_integer_bytes value) }
-{
-    encoder.long(value)
 }
 
 // The refusal of a number that isn't written.
@@ -106,6 +100,17 @@ impl CborBody {
         } else {
             self.begin_value(schema)
         }
+    }
+
+    // Writes a list of whole numbers.
+    fn write_longs(&mut self, schema: &Schema<'_>, values: &[i64]) -> Result<(), SerdeError>
+        ensures { Makes (where_taken (wrote (body_of self.old) (site_of schema.now).view (canonical_cbor (body_of self.old).settings.use_definite_lengths (site_of schema.now) (list_of_wholes values.now))) (after_value (body_of self.old).frames)) (body_has_failed self.old) (body_of self.new) (body_has_failed self.new) result }
+    {
+        self.begin_value(schema)?;
+        let length = self.settings.written_length(Some(values.len()));
+        write_whole_numbers(&mut self.encoder, length, values)?;
+        self.containers.succeed();
+        Ok(())
     }
 
     // Ends the innermost container, which has to be of this kind and, where its length is written, to be of this length.
@@ -216,6 +221,10 @@ impl ShapeSerializer for CborBody {
         write_whole_number(&mut self.encoder, value)?;
         self.containers.succeed();
         Ok(())
+    }
+
+    fn write_long_list(&mut self, schema: &Schema<'_>, values: &[i64]) -> Result<(), SerdeError> {
+        self.write_longs(schema, values)
     }
 
     fn write_string(&mut self, schema: &Schema<'_>, value: &str) -> Result<(), SerdeError> {

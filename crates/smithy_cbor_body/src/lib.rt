@@ -5,6 +5,7 @@ mod body;
 mod lengths;
 mod prefix;
 mod settings;
+mod whole_numbers;
 
 pub use body::CborBody;
 pub use prefix::{NoPrefix, StructPrefix};

@@ -1,3 +1,5 @@
+mod LongLists
+mod LongRuns
 mod OnLiterals
 mod Examples
 mod EncodedItems
@@ -7,7 +9,6 @@ mod DocumentFacts
 mod SpellingFacts
 mod WritingFacts
 mod StandingFacts
-pub mod WritingLemmas
 pub mod WrittenBody
 pub mod WrittenSpelling
 pub mod EntryLemmas

@@ -5,6 +5,7 @@ use crate::frames::{frame, is_missing, missing};
 use smithy_cbor_body::CborCodecSettings;
 use smithy_cbor_values::container_size::container_size_at;
 use smithy_cbor_values::instants::instant_at;
+use smithy_cbor_values::long_runs::longs_at;
 use smithy_cbor_values::numbers::{big_decimal_at, big_integer_at};
 use smithy_cbor_values::places::{
     EntryOrEnd, array_at, entry_or_end, is_null_at, map_at, null_end,
@@ -207,6 +208,28 @@ impl ShapeDeserializer for CborDeserializer<'_> {
             }
             None => Err(self.walk.refuse(SerdeError::InvalidInput)),
         }
+    }
+
+    #[inline(always)]
+    fn read_longs(&mut self, _schema: &Schema<'_>, room: &mut [i64]) -> usize {
+        if self.walk.failed || self.walk.due {
+            return 0;
+        }
+        if self.walk.depth() == 0 {
+            return 0;
+        }
+        let run = longs_at(
+            self.walk.input,
+            self.walk.position,
+            self.walk.inner.mark.due,
+            room,
+        );
+        if run.count > 0 {
+            self.walk
+                .go_on(run.end, frame(ContainerKind::List, run.due));
+            self.walk.pass(run.end);
+        }
+        run.count
     }
 
     fn open_map(&mut self, _schema: &Schema<'_>) -> Result<(), SerdeError> {

@@ -126,6 +126,10 @@ impl<P: StructPrefix + Copy> ShapeSerializer for CborSerializer<P> {
         self.body.write_long(schema, value)
     }
 
+    fn write_long_list(&mut self, schema: &Schema<'_>, values: &[i64]) -> Result<(), SerdeError> {
+        self.body.write_long_list(schema, values)
+    }
+
     fn write_string(&mut self, schema: &Schema<'_>, value: &str) -> Result<(), SerdeError> {
         self.body.write_string(schema, value)
     }

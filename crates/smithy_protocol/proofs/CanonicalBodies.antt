@@ -18,7 +18,7 @@ use Rattle.smithy_cbor_body.specs.Codec.{strict_settings as strict_cbor}
 use Rattle.smithy_cbor_body.specs.Prefixes.{CborState, cbor_after, fresh_state as fresh_cbor, no_prefix, with_prefix}
 use Rattle.smithy_cbor_body.specs.Writing.{fresh_body}
 use Rattle.smithy_cbor_codec.proofs.PrefixLemmas.{unprefixed}
-use Rattle.smithy_cbor_codec.proofs.WritingLemmas.{value_adds as cbor_value_adds}
+use Rattle.smithy_cbor_body.proofs.WritingLemmas.{value_adds as cbor_value_adds}
 use Rattle.smithy_query_codec.specs.Canonical.{canonical_query}
 use Rattle.smithy_query_codec.specs.Writing.{QueryState, query_after, fresh_state as fresh_query}
 use Rattle.smithy_query_codec.proofs.WholeForms.{whole_state, fit_is_written}

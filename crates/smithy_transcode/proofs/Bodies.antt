@@ -28,7 +28,7 @@ use Rattle.smithy_cbor_values.specs.Settings.{Settings as CborSettings}
 use Rattle.smithy_cbor_body.specs.Prefixes.{CborState, cbor_after, fresh_state as fresh_cbor_state, no_prefix, with_prefix}
 use Rattle.smithy_cbor_body.specs.Writing.{fresh_body}
 use Rattle.smithy_cbor_codec.proofs.PrefixLemmas.{unprefixed}
-use Rattle.smithy_cbor_codec.proofs.WritingLemmas.{value_adds as cbor_value_adds}
+use Rattle.smithy_cbor_body.proofs.WritingLemmas.{value_adds as cbor_value_adds}
 use Rattle.smithy_query_codec.specs.Nulls.{holds_null}
 use Rattle.smithy_query_codec.specs.Counts.{HasPositions}
 use Rattle.smithy_query_codec.specs.Writable.{can_write, can_be_written, query_holds}

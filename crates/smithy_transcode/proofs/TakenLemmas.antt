@@ -16,7 +16,7 @@ use Rattle.smithy_cbor_body.specs.Canonical.{cbor_holds}
 use Rattle.smithy_cbor_body.specs.Codec.{strict_settings as strict_cbor}
 use Rattle.smithy_cbor_body.specs.Prefixes.{Prefix, CborState, cbor_after, no_prefix, with_prefix}
 use Rattle.smithy_cbor_codec.proofs.PrefixLemmas.{unprefixed}
-use Rattle.smithy_cbor_codec.proofs.WritingLemmas.{value_adds as cbor_value_adds}
+use Rattle.smithy_cbor_body.proofs.WritingLemmas.{value_adds as cbor_value_adds}
 use Rattle.smithy_query_codec.specs.Canonical.{path_text}
 use Rattle.smithy_query_codec.specs.Leaves.{Path}
 use Rattle.smithy_query_codec.specs.Nulls.{holds_null}
