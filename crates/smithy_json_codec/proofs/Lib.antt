@@ -1,3 +1,5 @@
+mod LongRuns
+mod LongLists
 mod Examples
 mod StandardFacts
 mod WireFacts

@@ -7,6 +7,7 @@ use smithy_json_tokens::container_size;
 use smithy_json_values::documents::standing_document_at;
 use smithy_json_values::instants::instant_at;
 use smithy_json_values::integers::integer_at;
+use smithy_json_values::long_runs::longs_at;
 use smithy_json_values::mismatch::{no_object, told};
 use smithy_json_values::numbers::{big_decimal_at, big_integer_at};
 use smithy_json_values::places::{InList, byte_end, is_over, next_in_list, null_end};
@@ -181,6 +182,24 @@ impl ShapeDeserializer for JsonDeserializer<'_, '_> {
             }
             None => Err(self.walk.refuse(SerdeError::InvalidInput)),
         }
+    }
+
+    #[inline(always)]
+    fn read_longs(&mut self, _schema: &Schema<'_>, room: &mut [i64]) -> usize {
+        if self.walk.failed || self.walk.due {
+            return 0;
+        }
+        let run = longs_at(
+            self.walk.input,
+            self.walk.position,
+            self.walk.inner.mark.entered,
+            room,
+        );
+        if run.count > 0 {
+            self.walk.go_on(run.end, frame(ContainerKind::List, true));
+            self.walk.pass(run.end);
+        }
+        run.count
     }
 
     fn open_map(&mut self, _schema: &Schema<'_>) -> Result<(), SerdeError> {

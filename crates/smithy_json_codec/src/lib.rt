@@ -9,6 +9,7 @@ mod digits;
 mod frames;
 mod input;
 mod keys;
+mod long_lists;
 mod member_steps;
 mod members;
 mod named_documents;

@@ -4,13 +4,14 @@ ghost use Rattle.smithy_schema.specs.declared.error.SerdeError.TheVariants.{Fail
 ghost use Rattle.smithy_schema.specs.Errors.{IsFault};
 ghost use Rattle.smithy_shapes.specs.Site.{site_of};
 ghost use Rattle.smithy_schema.specs.Writing.{Makes, after_value, after_text, after_begin};
+ghost use Rattle.smithy_schema.specs.Written.{list_of_wholes};
 ghost use Rattle.smithy_texts.specs.Base64Text.{blob_text};
 ghost use Rattle.smithy_types.specs.Document.{whole_document};
 ghost use Rattle.smithy_types.specs.DocumentView.{document_view};
 ghost use Rattle.smithy_json_grammar.specs.Ascii.{quotation_mark};
 ghost use Rattle.smithy_texts.specs.Decimal.{exponent_text, decimal_text};
 ghost use Rattle.smithy_json.specs.Escape.{quoted};
-ghost use Rattle.smithy_json_codec.specs.Canonical.{in_form};
+ghost use Rattle.smithy_json_codec.specs.Canonical.{canonical_json, in_form};
 ghost use Rattle.smithy_wire.specs.OpenContainers.{open_of};
 ghost use Rattle.smithy_json_values.specs.Codec.{held_settings};
 ghost use Rattle.smithy_json_codec.specs.WrittenNumber.{normalized, written_number};
@@ -19,6 +20,7 @@ ghost use Rattle.smithy_json_codec.specs.Writing.{JsonState, fresh_state, is_key
 
 use crate::big_numbers::push_normalized;
 use crate::digits::push_long;
+use crate::long_lists::push_longs;
 use crate::output::{
     form_at, push_base64, push_comma, push_key, push_name, push_quoted, push_whole_document,
 };
@@ -99,6 +101,17 @@ impl JsonSerializer {
     {
         self.begin_value(schema)?;
         self.out.extend_from_slice(text)?;
+        self.needs_comma = true;
+        self.containers.succeed();
+        Ok(())
+    }
+
+    // Writes a list of whole numbers.
+    fn write_longs(&mut self, schema: &Schema<'_>, values: &[i64]) -> Result<(), SerdeError>
+        ensures { Makes (where_taken (wrote (state_of self.old) (site_of schema.now).view (canonical_json (state_of self.old).settings (site_of schema.now) (list_of_wholes values.now))) (after_value (state_of self.old).frames)) (has_failed self.old) (state_of self.new) (has_failed self.new) result }
+    {
+        self.begin_value(schema)?;
+        push_longs(&mut self.out, values)?;
         self.needs_comma = true;
         self.containers.succeed();
         Ok(())
@@ -272,6 +285,10 @@ impl ShapeSerializer for JsonSerializer {
         self.needs_comma = true;
         self.containers.succeed();
         Ok(())
+    }
+
+    fn write_long_list(&mut self, schema: &Schema<'_>, values: &[i64]) -> Result<(), SerdeError> {
+        self.write_longs(schema, values)
     }
 
     fn write_string(&mut self, schema: &Schema<'_>, value: &str) -> Result<(), SerdeError> {
