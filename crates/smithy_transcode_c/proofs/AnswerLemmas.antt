@@ -20,6 +20,21 @@ stands_more xs ys before after n s is fits =
       ap (λ l. l ++ (ys ++ drop n after)) front ∙ ap (λ l. xs ++ (ys ++ l)) rest ∙ sym (append_assoc xs ys (drop (length (xs ++ ys)) before)),
     )
 
+-- three parts that are put one behind another stand first
+pub three_stand : (a v b room out1 out2 out3 : List ℕ) (i j : ℕ) → i ≡ length a + length v → j ≡ i + length b → j ≤ length room
+    → out1 ≡ a ++ drop (length a) room → out2 ≡ take (length a) out1 ++ (v ++ drop i out1) → out3 ≡ take i out2 ++ (b ++ drop j out2)
+    → StandsFirst (a ++ (v ++ b)) room out3
+three_stand a v b room out1 out2 out3 i j ends_two ends_three fits put1 put2 put3 =
+    let one : StandsFirst a room out1 = (omega (arith, ends_two, ends_three, fits), put1) in
+    let two : StandsFirst (a ++ v) room out2 =
+    subst (λ l. StandsFirst (a ++ v) room l) (sym put2) (stands_more a v room out1 i one ends_two (omega (arith, ends_three, fits))) in
+    let long : length (a ++ v) ≡ i = length-append a v ∙ sym ends_two in
+    let three : StandsFirst ((a ++ v) ++ b) room (take i out2 ++ (b ++ drop j out2)) =
+    subst (λ n. StandsFirst ((a ++ v) ++ b) room (take n out2 ++ (b ++ drop j out2))) long (stands_more (a ++ v) b room out2 j two (omega (arith, long, ends_three)) fits) in
+    let whole : StandsFirst (a ++ (v ++ b)) room (take i out2 ++ (b ++ drop j out2)) =
+    subst (λ l. StandsFirst l room (take i out2 ++ (b ++ drop j out2))) (append_assoc a v b) three in
+    subst (λ l. StandsFirst (a ++ (v ++ b)) room l) (sym put3) whole
+
 -- no byte of the caller's memory comes or goes
 pub stands_long : (xs before after : List ℕ) → StandsFirst xs before after → length after ≡ length before
 stands_long xs before after s =

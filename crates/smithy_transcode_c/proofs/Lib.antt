@@ -1,4 +1,6 @@
 pub mod AnswerLemmas
 pub mod AsBox
+pub mod FindingLemmas
+pub mod ReadingLemmas
 pub mod Tables
 pub mod Texts

@@ -74,19 +74,31 @@ Refuses table asked Usage = (source_wire asked.from ≡ None) ⊎ (target_wire a
 Refuses table asked OutOfMemory = HasWires asked
 Refuses table asked status = HasWires asked × RefusesRoot table asked.root_name status
 
+-- the name is that of this structure of the table, and the wire that is asked for is this
+pub record IsMeantAlone (table : Table) (root_name : List ℕ) (asked : Option Wire) (root : ℕ) (wire : Wire) : Type 0 where
+  pub named : declared_as table root_name ≡ Some root
+  pub structure : IsStructure (kind_of table (shape_place root))
+  pub is_wire : asked ≡ Some wire
+
+-- why a call that asks for one wire has nothing to do: the wire comes before the root
+abbrev pub RefusesAlone : Table → (root_name : List ℕ) → (asked : Option Wire) → Refusal → Type 0
+RefusesAlone table root_name asked Usage = asked ≡ None
+RefusesAlone table root_name asked OutOfMemory = asked ≢ None
+RefusesAlone table root_name asked status = (asked ≢ None) × RefusesRoot table root_name status
+
 -- these stand at the front of the caller's memory, behind which all stays as it was
 abbrev pub StandsFirst : (items before after : List ℕ) → Type 0
 StandsFirst items before after = (length items ≤ length before) × (after ≡ items ++ drop (length items) before)
 
--- The bytes stand at the front of the room; or the room is too short for them, and stays as it was.
-abbrev pub IsHandedOut : (bytes room : List ℕ) → (number : ℕ) → (out : List ℕ) → Type 0
-IsHandedOut bytes room number out =
-    ((number ≡ 0) × StandsFirst bytes room out)
+-- The bytes stand at the front of the room, which this number tells; or the room is too short for them, and stays as it was.
+abbrev pub IsHandedOut : (done : ℕ) → (bytes room : List ℕ) → (number : ℕ) → (out : List ℕ) → Type 0
+IsHandedOut done bytes room number out =
+    ((number ≡ done) × StandsFirst bytes room out)
     ⊎ ((number ≡ 24) × (length room < length bytes) × (out ≡ room))
 
 -- what becomes of an answer of `transcode`: the number of the call, the length of the body, and the caller's memory
 abbrev pub IsPassedOn : Answer → (room : List ℕ) → (number body_len : ℕ) → (out : List ℕ) → Type 0
-IsPassedOn (Ok body) room number body_len out = (body_len ≡ length body.items) × IsHandedOut body.items room number out
+IsPassedOn (Ok body) room number body_len out = (body_len ≡ length body.items) × IsHandedOut 0 body.items room number out
 IsPassedOn (Err error) room number body_len out =
     (number ≡ error_number error) × (body_len ≡ 0) × (out ≡ room)
 

@@ -1,7 +1,11 @@
 -- to be believed, in this order
 pub mod Refusals
+pub mod Numbers
 pub mod Calls
 pub mod Bodies
+pub mod Comparing
+pub mod Finding
+pub mod Reading
 -- what a table in the hands of C owns
 pub mod Owned
 -- what the types of the library stand for

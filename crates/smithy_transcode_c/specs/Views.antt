@@ -1,6 +1,8 @@
 -- What contracts see of a call's arguments.
 use Rattle.smithy_transcode_c.specs.declared.asked.Asked.{Asked as Given}
 use Rattle.smithy_transcode_c.specs.Calls.{Asked}
+use Rattle.smithy_transcode_c.specs.declared.comparing.Comparison.{Comparison as GivenTwo}
+use Rattle.smithy_transcode_c.specs.Comparing.{Comparison}
 
 abbrev pub asked_of : Given → Asked
 asked_of given = record {
@@ -10,3 +12,6 @@ asked_of given = record {
   action = given.action.now;
   version = given.version.now;
 }
+
+abbrev pub comparison_of : GivenTwo → Comparison
+comparison_of given = record { root_name = given.root.now; first = given.first; second = given.second }

@@ -8,19 +8,19 @@ use smithy_shapes::Shapes;
 use smithy_transcode::transcode;
 use std::alloc::Global;
 
-/// The number of a call whose room is too short for the body.
+/// The number of a call whose room is too short.
 pub(crate) const NO_ROOM: u8 = 24;
 
-// Puts a body to the front of the room.
-fn hand_out(body: &[u8], out: &mut [u8]) -> u8
-    ensures { IsHandedOut body.now out.old result out.new }
+/// Puts bytes to the front of the room, and answers `done` if they have room.
+pub(crate) fn hand_out(done: u8, bytes: &[u8], out: &mut [u8]) -> u8
+    ensures { IsHandedOut done bytes.now out.old result out.new }
 {
-    let count = body.len();
+    let count = bytes.len();
     if out.len() < count {
         return NO_ROOM;
     }
-    out[..count].copy_from_slice(body);
-    0
+    out[..count].copy_from_slice(bytes);
+    done
 }
 
 /// Transcodes one body into the caller's memory.
@@ -42,7 +42,7 @@ pub(crate) fn answer(
     match transcode(alloc, table, meant.root, &meant.from, input, &meant.to) {
         Ok(body) => {
             *len = body.len();
-            hand_out(&body, out)
+            hand_out(0, &body, out)
         }
         Err(error) => error.number(),
     }

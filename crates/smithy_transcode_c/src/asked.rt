@@ -52,8 +52,8 @@ fn common_wire(number: u32) -> Option<Wire>
     }
 }
 
-// The wire of a number from which bodies are read.
-fn source_wire(number: u32) -> Option<Wire>
+/// The wire of a number from which bodies are read.
+pub(crate) fn source_wire(number: u32) -> Option<Wire>
     ensures { option_map wire_of result ≡ source_wire number }
 {
     match number {
@@ -96,8 +96,8 @@ fn form_of(alloc: Global, action: &[u8], version: &[u8]) -> Result<Option<Wire>,
     }))
 }
 
-// The structure of that name.
-fn find_root(table: &Shapes, name: &[u8]) -> Result<ShapeRef, Refusal>
+/// The structure of that name.
+pub(crate) fn find_root(table: &Shapes, name: &[u8]) -> Result<ShapeRef, Refusal>
     ensures root { IfOk result (λ root. (declared_as table.now name.now ≡ Some root.0) × IsStructure (kind_of table.now (shape_place root.0))) }
     ensures refused { IfErr result (RefusesRoot table.now name.now) }
 {
@@ -114,8 +114,8 @@ fn find_root(table: &Shapes, name: &[u8]) -> Result<ShapeRef, Refusal>
 }
 
 impl Asked<'_> {
-    // The wire to which bodies are written.
-    fn target_wire(&self, alloc: Global) -> Result<Option<Wire>, AllocError>
+    /// The wire to which bodies are written.
+    pub(crate) fn target_wire(&self, alloc: Global) -> Result<Option<Wire>, AllocError>
         ensures wire { IfOk result (λ wire. option_map wire_of wire ≡ target_wire (asked_of self.now)) }
         ensures memory { OnErr result (target_wire (asked_of self.now) ≢ None) }
     {

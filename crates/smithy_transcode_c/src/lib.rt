@@ -7,18 +7,28 @@ ghost use Rattle.smithy_transcode_c.specs.Refusals.{refusal_number};
 ghost use Rattle.smithy_declarations.specs.Acceptance.{accepted, table_of};
 ghost use Rattle.smithy_declarations.specs.Table.{Table};
 ghost use Rattle.smithy_transcode_c.specs.Bodies.{BodiesAnswer};
-ghost use Rattle.smithy_transcode_c.specs.Calls.{CallAnswer, RefusesTable};
+ghost use Rattle.smithy_transcode_c.specs.Calls.{CallAnswer, RefusesTable, source_wire, target_wire};
+ghost use Rattle.smithy_transcode_c.specs.Comparing.{CompareAnswer};
+ghost use Rattle.smithy_transcode_c.specs.Finding.{FindingsAnswer};
+ghost use Rattle.smithy_transcode_c.specs.Reading.{FormAnswer};
 
 mod answer;
 mod asked;
 mod bodies;
+mod comparing;
+mod finding;
 mod handle;
+mod numbers;
+mod reading;
 mod refusal;
 
 use crate::answer::answer;
 use crate::asked::Asked;
 use crate::bodies::{Inputs, answer_each};
+use crate::comparing::{Comparison, answer_comparison};
+use crate::finding::answer_findings;
 use crate::handle::{Handle, Place};
+use crate::reading::{FormTold, answer_form};
 use crate::refusal::Refusal;
 use smithy_shapes::{Shapes, TableText};
 use std::alloc::Global;
@@ -131,6 +141,98 @@ pub extern "C" fn smithy_transcode_bodies(
     let number = answer_each(
         alloc, &table, &asked, &inputs, out, out_ends, statuses, done,
     );
+    *place = Place::of(table);
+    number
+}
+
+/// Whether two bodies of one root, each in its wire, spell one value: 0, or 40 with the first path at which their values differ, whose text
+/// is written to the front of `out` and its length to `path_len`; or a status, or 24 where `out` is shorter than `path_len`.
+#[unsafe(no_mangle)]
+pub extern "C" fn smithy_transcode_compare(
+    alloc: Global,
+    table: Handle,
+    place: &mut Place,
+    root: &[u8],
+    first_wire: u32,
+    first: &[u8],
+    second_wire: u32,
+    second: &[u8],
+    out: &mut [u8],
+    path_len: &mut usize,
+) -> u8
+    ensures answer { CompareAnswer table.table (record { root_name = root.now; first = first_wire; second = second_wire })
+        first.now second.now out.old result path_len.new out.new }
+    ensures back { place.new.table ≡ Some table.table }
+{
+    let asked = Comparison {
+        root,
+        first: first_wire,
+        second: second_wire,
+    };
+    let table = table.into_box();
+    let number = answer_comparison(alloc, &table, &asked, first, second, out, path_len);
+    *place = Place::of(table);
+    number
+}
+
+/// What is found in a body: 0 where that is nothing, or 60 with all findings, in the order of the body: the text of each path, one behind
+/// another, at the front of `out`, its length in `lens`, and its kind in `kinds`. Or a status, or 24 where some of it has no room; `count`
+/// and `len` say then too how many findings there are, and how long the texts are together.
+#[unsafe(no_mangle)]
+pub extern "C" fn smithy_transcode_findings(
+    alloc: Global,
+    table: Handle,
+    place: &mut Place,
+    root: &[u8],
+    from: u32,
+    input: &[u8],
+    lens: &mut [usize],
+    kinds: &mut [u8],
+    out: &mut [u8],
+    count: &mut usize,
+    len: &mut usize,
+) -> u8
+    ensures answer { FindingsAnswer table.table root.now (source_wire from) input.now (record { lens = lens.old; kinds = kinds.old; out = out.old })
+        result count.new len.new (record { lens = lens.new; kinds = kinds.new; out = out.new }) }
+    ensures back { place.new.table ≡ Some table.table }
+{
+    let table = table.into_box();
+    let number = answer_findings(
+        alloc, &table, root, from, input, lens, kinds, out, count, len,
+    );
+    *place = Place::of(table);
+    number
+}
+
+/// Reads a form: writes its action, its version and the canonical body of its value in the wanted wire, one behind another, to the front
+/// of `out`, and their lengths to `told`, and answers 0; or a status, or 24 where `out` is too short for them.
+#[unsafe(no_mangle)]
+pub extern "C" fn smithy_transcode_form(
+    alloc: Global,
+    table: Handle,
+    place: &mut Place,
+    root: &[u8],
+    to: u32,
+    action: &[u8],
+    version: &[u8],
+    input: &[u8],
+    out: &mut [u8],
+    told: &mut FormTold,
+) -> u8
+    ensures answer { FormAnswer table.table root.now
+        (target_wire (record { root_name = root.now; from = 0; to = to; action = action.now; version = version.now }))
+        input.now out.old result told.new out.new }
+    ensures back { place.new.table ≡ Some table.table }
+{
+    let asked = Asked {
+        root,
+        from: 0,
+        to,
+        action,
+        version,
+    };
+    let table = table.into_box();
+    let number = answer_form(alloc, &table, &asked, input, out, told);
     *place = Place::of(table);
     number
 }
