@@ -299,6 +299,210 @@ static void many(void)
     expect("no table", smithy_table_transcode_all(&table, &task, ends, 3, input, 21, out, 32, out_ends, statuses, &done) == SMITHY_NO_TABLE && done == 0);
 }
 
+/* ---- two bodies compared */
+
+/* One comparison: the number, and the text of the path where there is one. */
+static void pair(smithy_table *table, const char *root, uint32_t wire1, const char *first, size_t first_len, uint32_t wire2,
+    const char *second, size_t second_len, int number, const char *path)
+{
+    char room[64];
+    size_t len = 99;
+    memset(room, 0x55, sizeof room);
+    int answered = smithy_table_compare(table, root, strlen(root), wire1, first, first_len, wire2, second, second_len, room, sizeof room, &len);
+    if (answered != number || len != strlen(path) || memcmp(room, path, len) != 0 || room[len] != 0x55) {
+        fprintf(stderr, "failed: `%.*s` and `%.*s` answer %d and `%.*s`, and not %d and `%s`\n", (int)first_len, first, (int)second_len, second,
+            answered, (int)len, room, number, path);
+        failed = 1;
+    }
+}
+
+#define PAIR(root, wire1, first, wire2, second, number, path) \
+    pair(&table, root, wire1, first, sizeof(first) - 1, wire2, second, sizeof(second) - 1, number, path)
+
+static void compared(void)
+{
+    static char deep[512];
+    static const char text[] = "structure S\nmember a integer\nmember n bigInteger\nmember x document\nmember m M\nmap M string\n";
+    static const char wide[] = "{\"n\":1000000000000000000000000000000000000000}";
+    smithy_table table = {NULL};
+    char path[8];
+    size_t len = 99;
+    expect("a table is accepted", smithy_table_accept(&table, text, sizeof text - 1) == SMITHY_DONE);
+    PAIR("S", SMITHY_JSON, "{\"z\":1, \"a\":7}", SMITHY_CBOR, "\xa1\x61\x61\x07", SMITHY_DONE, "");
+    PAIR("S", SMITHY_JSON, "{\"a\":7}", SMITHY_JSON, "{\"a\":8}", SMITHY_DIFFERS, "$.a");
+    PAIR("S", SMITHY_JSON, "{\"m\":{\"k\":\"x\"}}", SMITHY_JSON_NAME, "{\"m\":{}}", SMITHY_DIFFERS, "$.m{\"k\"}");
+    PAIR("S", SMITHY_JSON_INTEGRAL, "{\"a\":7.0}", SMITHY_JSON_NAME_INTEGRAL, "{\"a\":7}", SMITHY_DONE, "");
+    PAIR("S", SMITHY_JSON, "", SMITHY_CBOR, "", SMITHY_DONE, "");
+    size_t deep_len = (size_t)sprintf(deep, "{\"z\":%0128d", 0);
+    memset(deep + deep_len - 128, '[', 128);
+    deep_len += (size_t)sprintf(deep + deep_len, "%0128d}", 0);
+    memset(deep + deep_len - 129, ']', 128);
+    static const char *const bodies[] = {"{\"a\":7.5}", deep, wide, "{\"x\":1.5}"};
+    for (int n = 0; n < 4; n++) {
+        pair(&table, "S", SMITHY_JSON, bodies[n], strlen(bodies[n]), SMITHY_JSON, "{", 1, SMITHY_INVALID_INPUT + n, "");
+        pair(&table, "S", SMITHY_JSON, "{}", 2, SMITHY_JSON, bodies[n], strlen(bodies[n]), SMITHY_SECOND_INVALID_INPUT + n, "");
+    }
+    PAIR("S", SMITHY_QUERY, "", SMITHY_JSON, "{}", SMITHY_USAGE, "");
+    PAIR("S", SMITHY_JSON, "{}", SMITHY_CBOR_DEFINITE, "\xa0", SMITHY_USAGE, "");
+    PAIR("S", SMITHY_JSON, "{}", 99, "", SMITHY_USAGE, "");
+    PAIR("Q", SMITHY_JSON, "{}", 99, "", SMITHY_USAGE, "");
+    PAIR("Q", SMITHY_JSON, "{}", SMITHY_JSON, "{}", SMITHY_NO_SUCH_SHAPE, "");
+    PAIR("\xff", SMITHY_JSON, "{}", SMITHY_JSON, "{}", SMITHY_NO_SUCH_SHAPE, "");
+    PAIR("M", SMITHY_JSON, "{}", SMITHY_JSON, "{}", SMITHY_NOT_A_STRUCTURE, "");
+    memset(path, 0x55, sizeof path);
+    expect("the path fills its room",
+        smithy_table_compare(&table, "S", 1, SMITHY_JSON, "{\"a\":1}", 7, SMITHY_JSON, "{}", 2, path, 3, &len) == SMITHY_DIFFERS && len == 3);
+    expect("the path, and no more", memcmp(path, "$.aU", 4) == 0);
+    memset(path, 0x55, sizeof path);
+    expect("a path longer than its room",
+        smithy_table_compare(&table, "S", 1, SMITHY_JSON, "{\"a\":1}", 7, SMITHY_JSON, "{}", 2, path, 2, &len) == SMITHY_NO_ROOM && len == 3);
+    expect("nothing is written then", path[0] == 0x55);
+    expect("no room at all",
+        smithy_table_compare(&table, "S", 1, SMITHY_JSON, "{\"a\":1}", 7, SMITHY_JSON, NULL, 0, NULL, 0, &len) == SMITHY_NO_ROOM && len == 3);
+    expect("no room for no path", smithy_table_compare(&table, "S", 1, SMITHY_JSON, NULL, 0, SMITHY_JSON, NULL, 0, NULL, 0, &len) == SMITHY_DONE && len == 0);
+    expect("no place for the length", smithy_table_compare(&table, "S", 1, SMITHY_JSON, "", 0, SMITHY_JSON, "", 0, path, 8, NULL) == SMITHY_USAGE);
+    smithy_table_free(&table);
+    len = 99;
+    expect("no table", smithy_table_compare(&table, "S", 1, SMITHY_JSON, "", 0, SMITHY_JSON, "", 0, path, 8, &len) == SMITHY_NO_TABLE && len == 0);
+}
+
+/* ---- findings */
+
+struct findings {
+    size_t lens[8];
+    uint8_t kinds[8];
+    char texts[64];
+    size_t count, len;
+};
+
+static int find(smithy_table *table, const char *root, uint32_t wire, const char *input, size_t input_len, size_t room, size_t texts_room,
+    struct findings *it)
+{
+    memset(it, 0x55, sizeof *it);
+    return smithy_table_findings(table, root, strlen(root), wire, input, input_len, it->lens, it->kinds, room, it->texts, texts_room,
+        &it->count, &it->len);
+}
+
+/* One finding in a body: its path and its kind. */
+static void finding(smithy_table *table, uint32_t wire, const char *input, size_t input_len, const char *path, int kind)
+{
+    struct findings it;
+    int answered = find(table, "S", wire, input, input_len, 8, 64, &it);
+    if (answered != SMITHY_FOUND || it.count != 1 || it.len != strlen(path) || it.lens[0] != it.len || memcmp(it.texts, path, it.len) != 0
+        || it.kinds[0] != kind || it.kinds[1] != 0x55 || it.texts[it.len] != 0x55) {
+        fprintf(stderr, "failed: `%.*s` answers %d, `%.*s` and %d, and not `%s` and %d\n", (int)input_len, input, answered, (int)it.len, it.texts,
+            it.kinds[0], path, kind);
+        failed = 1;
+    }
+}
+
+#define FINDING(wire, input, path, kind) finding(&table, wire, input, sizeof(input) - 1, path, kind)
+
+static void findings(void)
+{
+    static const char text[] = "structure S\nmember a integer\nmember n bigInteger\nmember t timestamp\nmember l L\nmember u U\n"
+                               "list L string\nunion U\nmember s S\nmember n long\n";
+    static char nested[2048], nest[1024];
+    smithy_table table = {NULL};
+    struct findings it;
+    expect("a table is accepted", smithy_table_accept(&table, text, sizeof text - 1) == SMITHY_DONE);
+    FINDING(SMITHY_JSON, "{\"z\":1}", "${\"z\"}", SMITHY_KIND_UNKNOWN);
+    FINDING(SMITHY_JSON, "{\"a\":7.5}", "$.a", SMITHY_KIND_MISMATCH);
+    FINDING(SMITHY_JSON, "{\"n\":1000000000000000000000000000000000000000}", "$.n", SMITHY_KIND_WIDE);
+    FINDING(SMITHY_JSON, "{\"t\":0.0000000001}", "$.t", SMITHY_KIND_NOT_CARRIED);
+    FINDING(SMITHY_CBOR, "\xa1\x01\x07", "$", SMITHY_KIND_KEY);
+    FINDING(SMITHY_JSON, "{\"u\":{}}", "$.u", SMITHY_KIND_UNION);
+    FINDING(SMITHY_JSON, "{\"l\":[null]}", "$.l[0]", SMITHY_KIND_NULL);
+    FINDING(SMITHY_JSON_INTEGRAL, "{\"a\":7.0,\"l\":[1]}", "$.l[0]", SMITHY_KIND_MISMATCH);
+    size_t len = (size_t)sprintf(nested, "{\"z\":%0128d", 0);
+    memset(nested + len - 128, '[', 128);
+    len += (size_t)sprintf(nested + len, "%0128d}", 0);
+    memset(nested + len - 129, ']', 128);
+    expect("too deep", find(&table, "S", SMITHY_JSON, nested, len, 8, 64, &it) == SMITHY_FOUND && it.count == 2 && it.kinds[1] == SMITHY_KIND_DEEP);
+    expect("nothing", find(&table, "S", SMITHY_JSON, "{\"a\":7}", 7, 8, 64, &it) == SMITHY_DONE && it.count == 0 && it.len == 0 && it.kinds[0] == 0x55);
+    expect("nothing in an empty body", find(&table, "S", SMITHY_CBOR, NULL, 0, 0, 0, &it) == SMITHY_DONE && it.count == 0);
+    expect("no text", find(&table, "S", SMITHY_JSON, "{", 1, 8, 64, &it) == SMITHY_NOT_WELL_FORMED && it.count == 0 && it.len == 0);
+    memset(nest, '[', 513);
+    memset(nest + 513, ']', 507);
+    expect("no text of many brackets", find(&table, "S", SMITHY_JSON, nest, 1020, 8, 64, &it) == SMITHY_TOO_NESTED || it.count == 0);
+    memset(nested, '[', 513);
+    memset(nested + 513, ']', 513);
+    expect("too nested", find(&table, "S", SMITHY_JSON, nested, 1026, 8, 64, &it) == SMITHY_TOO_NESTED && it.count == 0);
+    expect("no wire", find(&table, "S", SMITHY_QUERY, "", 0, 8, 64, &it) == SMITHY_USAGE);
+    expect("a wire that is written alone", find(&table, "Q", SMITHY_CBOR_DEFINITE, "", 0, 8, 64, &it) == SMITHY_USAGE);
+    expect("no shape", find(&table, "Q", SMITHY_JSON, "", 0, 8, 64, &it) == SMITHY_NO_SUCH_SHAPE);
+    expect("no structure", find(&table, "L", SMITHY_JSON, "", 0, 8, 64, &it) == SMITHY_NOT_A_STRUCTURE);
+    static const char three[] = "{\"z\":1, \"a\":\"x\", \"l\":[\"x\",7]}";
+    expect("three", find(&table, "S", SMITHY_JSON, three, sizeof three - 1, 3, 15, &it) == SMITHY_FOUND && it.count == 3 && it.len == 15);
+    expect("their texts", memcmp(it.texts, "${\"z\"}$.a$.l[1]U", 16) == 0 && it.lens[0] == 6 && it.lens[1] == 3 && it.lens[2] == 6);
+    expect("their kinds", it.kinds[0] == SMITHY_KIND_UNKNOWN && it.kinds[1] == SMITHY_KIND_MISMATCH && it.kinds[2] == SMITHY_KIND_MISMATCH && it.kinds[3] == 0x55);
+    expect("no room for a text", find(&table, "S", SMITHY_JSON, three, sizeof three - 1, 3, 14, &it) == SMITHY_NO_ROOM && it.count == 3 && it.len == 15);
+    expect("nothing is written then", it.texts[0] == 0x55 && it.kinds[0] == 0x55 && it.lens[0] == it.lens[7]);
+    expect("no room for a finding", find(&table, "S", SMITHY_JSON, three, sizeof three - 1, 2, 64, &it) == SMITHY_NO_ROOM && it.count == 3 && it.kinds[0] == 0x55);
+    expect("no places",
+        smithy_table_findings(&table, "S", 1, SMITHY_JSON, three, sizeof three - 1, NULL, NULL, 9, NULL, 9, &it.count, &it.len) == SMITHY_NO_ROOM && it.count == 3);
+    expect("no place for the count",
+        smithy_table_findings(&table, "S", 1, SMITHY_JSON, three, 2, it.lens, it.kinds, 3, it.texts, 15, NULL, &it.len) == SMITHY_USAGE);
+    smithy_table_free(&table);
+    expect("no table", find(&table, "S", SMITHY_JSON, "", 0, 8, 64, &it) == SMITHY_NO_TABLE && it.count == 0 && it.len == 0);
+}
+
+/* ---- forms */
+
+/* One form into ample room: the number, the parts with a bar behind the action and the version, and the pair. */
+static void form(smithy_table *table, smithy_task task, const char *input, int number, const char *parts, uint64_t refused)
+{
+    char room[128], found[160];
+    smithy_form_told told = {9, 9, 9, 9};
+    memset(room, 0x55, sizeof room);
+    int answered = smithy_table_form(table, &task, input, strlen(input), room, sizeof room, &told);
+    const char *version = room + told.action_len, *body = version + told.version_len;
+    int len = snprintf(found, sizeof found, "%.*s|%.*s|%.*s", (int)told.action_len, room, (int)told.version_len, version, (int)told.body_len, body);
+    if (answered != number || strlen(parts) != (size_t)len || memcmp(found, parts, (size_t)len) != 0 || body[told.body_len] != 0x55 || told.pair != refused) {
+        fprintf(stderr, "failed: `%s` answers %d and `%s`, and not %d and `%s`\n", input, answered, found, number, parts);
+        failed = 1;
+    }
+}
+
+static void forms(void)
+{
+    smithy_table table = {NULL};
+    smithy_task to_json = task_of("S", 99, SMITHY_JSON), to_query = task_of("S", SMITHY_JSON, SMITHY_QUERY);
+    smithy_form_told told;
+    char out[16];
+    expect("a table is accepted", smithy_table_accept(&table, TEXT, sizeof TEXT - 1) == SMITHY_DONE);
+    form(&table, to_json, "Action=Go&Version=1+2&l.member.1=x%26&a=7", SMITHY_DONE, "Go|1 2|{\"a\":7,\"l\":[\"x&\"]}", 0);
+    form(&table, task_of("S", SMITHY_JSON, SMITHY_CBOR), "Action=Go&Version=1&a=7", SMITHY_DONE, "Go|1|\xbf\x61\x61\x07\xff", 0);
+    form(&table, to_query, "Action=Go&Version=2&a=7", SMITHY_DONE, "Go|2|Action=Do&Version=1&a=7", 0);
+    form(&table, to_json, "Action=Go&Version=1&a", SMITHY_BAD_PAIR, "||", 3);
+    form(&table, to_json, "Action=Go&Version=%2", SMITHY_BAD_PAIR, "||", 2);
+    form(&table, to_json, "", SMITHY_BAD_PAIR, "||", 1);
+    form(&table, to_json, "Version=1&Action=Go", SMITHY_NOT_A_FORM, "||", 0);
+    form(&table, to_json, "Action=Go", SMITHY_NOT_A_FORM, "||", 0);
+    form(&table, to_json, "Action=Go&Version=1&a=7&a=7", SMITHY_REPEATED, "||", 4);
+    form(&table, to_json, "Action=Go&Version=1&a=07", SMITHY_NO_VALUE, "||", 0);
+    form(&table, task_of("S", SMITHY_JSON, SMITHY_CBOR), "Action=Go&Version=1&t=2000-01-01T00%3A00%3A00.5Z", SMITHY_INSTANT, "||", 0);
+    form(&table, task_of("S", SMITHY_JSON, SMITHY_JSON_INTEGRAL), "", SMITHY_USAGE, "||", 0);
+    form(&table, task_of("Q", SMITHY_JSON, 99), "", SMITHY_USAGE, "||", 0);
+    form(&table, task_of("Q", SMITHY_JSON, SMITHY_JSON), "", SMITHY_NO_SUCH_SHAPE, "||", 0);
+    form(&table, task_of("L", SMITHY_JSON, SMITHY_JSON), "", SMITHY_NOT_A_STRUCTURE, "||", 0);
+    to_query.action = "\xff";
+    to_query.action_len = 1;
+    form(&table, to_query, "Action=Go&Version=2&a=7", SMITHY_USAGE, "||", 0);
+    memset(out, 0x55, sizeof out);
+    expect("the parts fill the room", smithy_table_form(&table, &to_json, "Action=Go&Version=1&a=7", 23, out, 10, &told) == SMITHY_DONE);
+    expect("the parts, and no more", memcmp(out, "Go1{\"a\":7}U", 11) == 0);
+    memset(out, 0x55, sizeof out);
+    for (size_t room = 0; room < 10; room++) {
+        expect("a byte is missing", smithy_table_form(&table, &to_json, "Action=Go&Version=1&a=7", 23, out, room, &told) == SMITHY_NO_ROOM);
+        expect("nothing is written then", out[0] == 0x55 && told.action_len == 2 && told.version_len == 1 && told.body_len == 7 && told.pair == 0);
+    }
+    expect("no task", smithy_table_form(&table, NULL, "", 0, out, 16, &told) == SMITHY_USAGE && told.body_len == 0);
+    expect("no place for what is told", smithy_table_form(&table, &to_json, "", 0, out, 16, NULL) == SMITHY_USAGE);
+    smithy_table_free(&table);
+    expect("no table", smithy_table_form(&table, &to_json, "", 0, out, 16, &told) == SMITHY_NO_TABLE && told.pair == 0);
+}
+
 /* So many calls with one table leave the memory of the process as it is. */
 static void memory(long count)
 {
@@ -361,6 +565,9 @@ static void threads(void)
 int main(int words, char **word)
 {
     many();
+    compared();
+    findings();
+    forms();
     memory(words > 1 ? atol(word[1]) : 20000);
     threads();
     rows();

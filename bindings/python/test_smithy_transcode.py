@@ -1,5 +1,6 @@
 """Calls each part of the package smithy_transcode: `python3 -m unittest` in this folder."""
 
+import doctest
 import os
 import pickle
 import tempfile
@@ -69,6 +70,91 @@ class Bodies(unittest.TestCase):
         with self.assertRaises(st.NoSuchShape):
             self.table.transcoder("Q", st.JSON, st.JSON).each([b"{}"])
 
+    def test_compare(self):
+        table = st.Table(b"structure S\nmember a integer\nmember n bigInteger\nmember x document\nmember m M\nmap M string\n")
+        self.assertIsNone(table.compare("S", st.JSON, b'{"z":1, "a" : 7}', st.CBOR, bytes.fromhex("a1616107")))
+        self.assertEqual(table.compare("S", st.JSON, b'{"a":7}', st.JSON, b'{"a":8}'), "$.a")
+        key = "\u00e9" * 400
+        self.assertEqual(table.compare("S", st.JSON, b'{"m":{"%s":"x"}}' % key.encode(), st.JSON, b""), "$.m")
+        other = table.compare("S", st.JSON, b'{"m":{"%s":"x"}}' % key.encode(), st.JSON, b'{"m":{}}')
+        self.assertEqual(other, '$.m{"%s"}' % key)
+        wrong = [
+            (b'{"a":7.5}', st.InvalidInput),
+            (b'{"z":' + b"[" * 128 + b"]" * 128 + b"}", st.TooDeep),
+            (b'{"n":1' + b"0" * 39 + b"}", st.TooWide),
+            (b'{"x":1.5}', st.NotCarried),
+        ]
+        for n, (body, kind) in enumerate(wrong):
+            for status, pair in [(10 + n, (body, b"{")), (41 + n, (b"", body))]:
+                with self.subTest(status=status), self.assertRaises(kind) as caught:
+                    table.compare("S", st.JSON, pair[0], st.JSON, pair[1])
+                self.assertEqual(caught.exception.status, status)
+        for root, first, second, kind, status in [
+            ("S", st.CBOR_DEFINITE, st.JSON, st.Refused, 2),
+            ("Q", st.JSON, st.CBOR_DEFINITE, st.Refused, 2),
+            ("Q", st.JSON, st.JSON, st.NoSuchShape, 21),
+            ("M", st.JSON, st.JSON, st.NotAStructure, 22),
+        ]:
+            with self.assertRaises(kind) as caught:
+                table.compare(root, first, b"", second, b"")
+            self.assertEqual(caught.exception.status, status)
+
+    def test_findings(self):
+        table = st.Table(b"structure S\nmember a integer\nmember n bigInteger\nmember t timestamp\nmember l L\nmember u U\n"
+                         b"list L string\nunion U\nmember s S\nmember n long\n")
+        rows = [
+            (st.JSON, b'{"z":1}', ('${"z"}', "unknown")),
+            (st.JSON, b'{"a":7.5}', ("$.a", "mismatch")),
+            (st.JSON, b'{"n":1' + b"0" * 39 + b"}", ("$.n", "wide")),
+            (st.JSON, b'{"t":0.0000000001}', ("$.t", "not carried")),
+            (st.CBOR, bytes.fromhex("a10107"), ("$", "key")),
+            (st.JSON, b'{"u":{}}', ("$.u", "union")),
+            (st.JSON, b'{"l":[null]}', ("$.l[0]", "null")),
+        ]
+        for wire, body, finding in rows:
+            with self.subTest(body=body):
+                self.assertEqual(table.findings("S", wire, body), [st.Finding(*finding)])
+        deep = table.findings("S", st.JSON, b'{"z":' + b"[" * 128 + b"]" * 128 + b"}")
+        self.assertEqual([it.kind for it in deep], ["unknown", "deep"])
+        self.assertEqual(table.findings("S", st.JSON, b'{"a":7}'), [])
+        self.assertEqual(table.findings("S", st.CBOR, b""), [])
+        many = table.findings("S", st.JSON, b'{"l":[%s]}' % b",".join([b"7"] * 5000))
+        self.assertEqual(many, [st.Finding(f"$.l[{n}]", "mismatch") for n in range(5000)])
+        for root, wire, body, kind, status in [
+            ("S", st.JSON, b"{", st.NotWellFormed, 61),
+            ("S", st.JSON, b"[" * 513 + b"]" * 513, st.TooNested, 62),
+            ("Q", st.CBOR_DEFINITE, b"", st.Refused, 2),
+            ("Q", st.JSON, b"", st.NoSuchShape, 21),
+            ("L", st.JSON, b"", st.NotAStructure, 22),
+        ]:
+            with self.subTest(status=status), self.assertRaises(kind) as caught:
+                table.findings(root, wire, body)
+            self.assertEqual(caught.exception.status, status)
+
+    def test_form(self):
+        form = self.table.form("S", b"Action=Go&Version=1+2&l.member.1=x%26&a=7", st.JSON)
+        self.assertEqual(form, st.Form("Go", "1 2", b'{"a":7,"l":["x&"]}'))
+        self.assertEqual(self.table.form("S", b"Action=Go&Version=1&a=7", st.CBOR).body, bytes.fromhex("bf616107ff"))
+        self.assertEqual(self.table.form("S", b"Action=Go&Version=1&a=7", st.Query("Do", "2")).body, b"Action=Do&Version=2&a=7")
+        long = b"Action=Go&Version=1" + b"".join(b"&l.member.%d=" % n for n in range(1, 2000))
+        self.assertEqual(self.table.form("S", long, st.JSON).body, b'{"l":[' + b",".join([b'""'] * 1999) + b"]}")
+        for root, body, target, kind, status, text in [
+            ("S", b"Action=Go&Version=1&a", st.JSON, st.BadPair, 70, "bad pair 3"),
+            ("S", b"Action=Go", st.JSON, st.NotAForm, 71, "not a form"),
+            ("S", b"Action=Go&Version=1&a=7&a=7", st.JSON, st.RepeatedPath, 72, "repeated path 4"),
+            ("S", b"Action=Go&Version=1&a=07", st.JSON, st.NoValue, 73, "no value"),
+            ("S", b"Action=Go&Version=1&t=2000-01-01T00%3A00%3A00.5Z", st.CBOR, st.NotExpressible, 16, "instant not expressible"),
+            ("Q", b"", st.JSON_INTEGRAL, st.Refused, 2, "no such wire"),
+            ("Q", b"", st.JSON, st.NoSuchShape, 21, "no such shape"),
+            ("L", b"", st.JSON, st.NotAStructure, 22, "not a structure"),
+        ]:
+            with self.subTest(status=status), self.assertRaises(kind) as caught:
+                self.table.form(root, body, target)
+            self.assertEqual((caught.exception.status, str(caught.exception)), (status, text))
+
+    def test_examples(self):
+        self.assertEqual(doctest.testmod(st).failed, 0)
+
     def test_pickled_refusals(self):
         """Processes give each other refusals as values."""
         refusal = self.table.transcoder("S", st.JSON, st.JSON).each([b"{"])[0]
@@ -98,8 +184,14 @@ class Bodies(unittest.TestCase):
         to_json = self.table.transcoder("S", st.JSON, st.JSON)
         self.table.close()
         self.table.close()
-        with self.assertRaises(ValueError):
-            to_json(b"{}")
+        for call in [
+            lambda: to_json(b"{}"),
+            lambda: self.table.compare("S", st.JSON, b"", st.JSON, b""),
+            lambda: self.table.findings("S", st.JSON, b""),
+            lambda: self.table.form("S", b"", st.JSON),
+        ]:
+            with self.assertRaises(ValueError):
+                call()
 
     def test_threads(self):
         """Four threads with a table each, and four with one."""

@@ -9,12 +9,20 @@ from typing import Any, Union
 
 _DONE = 0
 _NO_ROOM = 24
+_DIFFERS = 40
+_FOUND = 60
 
 
 class _Handle(ctypes.Structure):
     """The C struct `smithy_table`, which calls take by value."""
 
     _fields_ = [("pointer", ctypes.c_void_p)]
+
+
+class _FormTold(ctypes.Structure):
+    """The C struct `smithy_form_told`."""
+
+    _fields_ = [("action_len", ctypes.c_size_t), ("version_len", ctypes.c_size_t), ("body_len", ctypes.c_size_t), ("pair", ctypes.c_uint64)]
 
 
 def _declared(library: Any) -> Any:
@@ -31,6 +39,15 @@ def _declared(library: Any) -> Any:
     library.smithy_transcode_bodies.argtypes = [_Handle, handle, text, size, ctypes.c_uint32, ctypes.c_uint32, text, size, text, size,
                                                 sizes, size, text, size, ctypes.c_char_p, size, sizes, size, numbers, size, sizes]
     library.smithy_transcode_bodies.restype = ctypes.c_uint8
+    library.smithy_transcode_compare.argtypes = [_Handle, handle, text, size, ctypes.c_uint32, text, size, ctypes.c_uint32, text, size,
+                                                 ctypes.c_char_p, size, ctypes.POINTER(size)]
+    library.smithy_transcode_compare.restype = ctypes.c_uint8
+    library.smithy_transcode_findings.argtypes = [_Handle, handle, text, size, ctypes.c_uint32, text, size, sizes, size, numbers, size,
+                                                  ctypes.c_char_p, size, sizes, sizes]
+    library.smithy_transcode_findings.restype = ctypes.c_uint8
+    library.smithy_transcode_form.argtypes = [_Handle, handle, text, size, ctypes.c_uint32, text, size, text, size, text, size,
+                                              ctypes.c_char_p, size, ctypes.POINTER(_FormTold)]
+    library.smithy_transcode_form.restype = ctypes.c_uint8
     return library
 
 
@@ -59,6 +76,53 @@ class Table:
 
     def task(self, root: bytes, source: int, target: int, action: bytes, version: bytes) -> Task:
         return Task(self, root, len(root), source, target, action, len(action), version, len(version))
+
+    def compare(self, root: bytes, first_wire: int, first: bytes, second_wire: int, second: bytes) -> Union[bytes, int]:
+        """The text of the first path at which the values of two bodies differ; or 0 where there is none, or why they weren't compared."""
+        path_len, room_len = ctypes.c_size_t(), 256
+        with self._lock:
+            handle = self.open()
+            while True:
+                room = ctypes.create_string_buffer(room_len)
+                status = _library.smithy_transcode_compare(handle, handle, root, len(root), first_wire, first, len(first), second_wire, second,
+                                                           len(second), room, room_len, path_len)
+                if status != _NO_ROOM:
+                    return room.raw[:path_len.value] if status == _DIFFERS else status
+                room_len = path_len.value
+
+    def findings(self, root: bytes, wire: int, body: bytes) -> Union[list[tuple[bytes, int]], int]:
+        """The text of each finding's path, and its kind; or why nothing was looked for."""
+        count, len_, most, room_len = ctypes.c_size_t(), ctypes.c_size_t(), 16, 1024
+        with self._lock:
+            handle = self.open()
+            while True:
+                lens, kinds, room = (ctypes.c_size_t * most)(), (ctypes.c_uint8 * most)(), ctypes.create_string_buffer(room_len)
+                status = _library.smithy_transcode_findings(handle, handle, root, len(root), wire, body, len(body), lens, most, kinds, most,
+                                                            room, room_len, count, len_)
+                if status != _NO_ROOM:
+                    break
+                most, room_len = max(most, count.value), max(room_len, len_.value)
+        if status not in (_DONE, _FOUND):
+            return status
+        ends = [0, *itertools.accumulate(lens[:count.value])]
+        return [(room.raw[ends[n]:ends[n + 1]], kind) for n, kind in enumerate(kinds[:count.value])]
+
+    def form(self, root: bytes, target: int, action: bytes, version: bytes, body: bytes) -> Union[tuple[bytes, bytes, bytes], tuple[int, int]]:
+        """The action and the version of a form, and the body of its value; or why it is refused, and which pair."""
+        told, room_len = _FormTold(), len(body) + 256
+        with self._lock:
+            handle = self.open()
+            while True:
+                room = ctypes.create_string_buffer(room_len)
+                status = _library.smithy_transcode_form(handle, handle, root, len(root), target, action, len(action), version, len(version),
+                                                        body, len(body), room, room_len, told)
+                if status != _NO_ROOM:
+                    break
+                room_len = told.action_len + told.version_len + told.body_len
+        if status != _DONE:
+            return status, told.pair
+        begin, end = told.action_len, told.action_len + told.version_len
+        return room.raw[:begin], room.raw[begin:end], room.raw[end:end + told.body_len]
 
     def open(self) -> _Handle:
         if not self._handle.pointer:

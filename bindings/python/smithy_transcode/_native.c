@@ -19,6 +19,9 @@ static struct {
     __typeof__(smithy_transcode_free) *free;
     __typeof__(smithy_transcode_body) *body;
     __typeof__(smithy_transcode_bodies) *bodies;
+    __typeof__(smithy_transcode_compare) *compare;
+    __typeof__(smithy_transcode_findings) *findings;
+    __typeof__(smithy_transcode_form) *form;
 } library;
 
 typedef struct {
@@ -317,6 +320,170 @@ static PyObject *task_many(Task *self, PyObject *bodies)
     return answers;
 }
 
+/* ---- two bodies compared, findings and forms: the calls of a table that name their root */
+
+typedef struct {
+    const char *bytes;
+    Py_ssize_t len;
+} Text;
+
+static const uint8_t *read_as(const Text *it)
+{
+    return (const uint8_t *)it->bytes;
+}
+
+/* Memory that holds something, as the library asks for, or an exception. */
+static void *room_of(size_t count, size_t size)
+{
+    void *room = calloc(count == 0 ? 1 : count, size);
+    if (room == NULL) {
+        PyErr_NoMemory();
+    }
+    return room;
+}
+
+static PyObject *bytes_of(const uint8_t *bytes, size_t len)
+{
+    return PyBytes_FromStringAndSize((const char *)bytes, (Py_ssize_t)len);
+}
+
+static PyObject *table_compare(Table *self, PyObject *arguments)
+{
+    Text root, first, second;
+    unsigned int first_wire, second_wire;
+    if (!PyArg_ParseTuple(arguments, "y#Iy#Iy#", &root.bytes, &root.len, &first_wire, &first.bytes, &first.len, &second_wire,
+            &second.bytes, &second.len) || !enter(self)) {
+        return NULL;
+    }
+    PyObject *answer = NULL;
+    uint8_t *path;
+    size_t room = 256, len = 0;
+    uint8_t status = SMITHY_NO_ROOM;
+    while (status == SMITHY_NO_ROOM && (path = room_of(room, 1)) != NULL) {
+        PyThreadState *thread = first.len + second.len < SHORT ? NULL : PyEval_SaveThread();
+        status = library.compare(self->accepted, &self->accepted, read_as(&root), (size_t)root.len, first_wire, read_as(&first),
+            (size_t)first.len, second_wire, read_as(&second), (size_t)second.len, path, room, &len);
+        if (thread != NULL) {
+            PyEval_RestoreThread(thread);
+        }
+        if (status != SMITHY_NO_ROOM) {
+            answer = status == SMITHY_DIFFERS ? bytes_of(path, len) : PyLong_FromLong(status);
+        }
+        room = len;
+        free(path);
+    }
+    unlock(self);
+    return answer;
+}
+
+/* The caller's memory for findings. */
+typedef struct {
+    size_t most;
+    size_t texts_room;
+    size_t *lens;
+    uint8_t *kinds;
+    uint8_t *texts;
+    size_t count;
+    size_t texts_len;
+} Findings;
+
+static void findings_free(Findings *it)
+{
+    free(it->lens);
+    free(it->kinds);
+    free(it->texts);
+}
+
+static PyObject *findings_list(const Findings *it)
+{
+    PyObject *list = PyList_New((Py_ssize_t)it->count);
+    const uint8_t *text = it->texts;
+    for (size_t n = 0; list != NULL && n < it->count; n++) {
+        PyObject *finding = Py_BuildValue("y#i", (const char *)text, (Py_ssize_t)it->lens[n], it->kinds[n]);
+        text += it->lens[n];
+        if (finding == NULL || PyList_SetItem(list, (Py_ssize_t)n, finding) < 0) {
+            Py_CLEAR(list);
+        }
+    }
+    return list;
+}
+
+static PyObject *table_findings(Table *self, PyObject *arguments)
+{
+    Text root, body;
+    unsigned int wire;
+    if (!PyArg_ParseTuple(arguments, "y#Iy#", &root.bytes, &root.len, &wire, &body.bytes, &body.len) || !enter(self)) {
+        return NULL;
+    }
+    Findings it = {.most = 16, .texts_room = 1024};
+    PyObject *answer = NULL;
+    uint8_t status = SMITHY_NO_ROOM;
+    while (status == SMITHY_NO_ROOM) {
+        findings_free(&it);
+        it.lens = room_of(it.most, sizeof *it.lens);
+        it.kinds = room_of(it.most, 1);
+        it.texts = room_of(it.texts_room, 1);
+        if (it.lens == NULL || it.kinds == NULL || it.texts == NULL) {
+            break;
+        }
+        PyThreadState *thread = body.len < SHORT ? NULL : PyEval_SaveThread();
+        status = library.findings(self->accepted, &self->accepted, read_as(&root), (size_t)root.len, wire, read_as(&body), (size_t)body.len,
+            it.lens, it.most, it.kinds, it.most, it.texts, it.texts_room, &it.count, &it.texts_len);
+        if (thread != NULL) {
+            PyEval_RestoreThread(thread);
+        }
+        it.most = it.most < it.count ? it.count : it.most;
+        it.texts_room = it.texts_room < it.texts_len ? it.texts_len : it.texts_room;
+    }
+    unlock(self);
+    if (status == SMITHY_DONE || status == SMITHY_FOUND) {
+        answer = findings_list(&it);
+    } else if (status != SMITHY_NO_ROOM) {
+        answer = PyLong_FromLong(status);
+    }
+    findings_free(&it);
+    return answer;
+}
+
+static PyObject *form_parts(const uint8_t *out, const smithy_form_told *told)
+{
+    const uint8_t *version = out + told->action_len, *body = version + told->version_len;
+    return Py_BuildValue("y#y#y#", (const char *)out, (Py_ssize_t)told->action_len, (const char *)version, (Py_ssize_t)told->version_len,
+        (const char *)body, (Py_ssize_t)told->body_len);
+}
+
+static PyObject *table_form(Table *self, PyObject *arguments)
+{
+    Text root, action, version, body;
+    unsigned int to;
+    if (!PyArg_ParseTuple(arguments, "y#Iy#y#y#", &root.bytes, &root.len, &to, &action.bytes, &action.len, &version.bytes, &version.len,
+            &body.bytes, &body.len) || !enter(self)) {
+        return NULL;
+    }
+    PyObject *answer = NULL;
+    uint8_t *out;
+    size_t room = (size_t)body.len + 256;
+    uint8_t status = SMITHY_NO_ROOM;
+    while (status == SMITHY_NO_ROOM && (out = room_of(room, 1)) != NULL) {
+        smithy_form_told told;
+        PyThreadState *thread = body.len < SHORT ? NULL : PyEval_SaveThread();
+        status = library.form(self->accepted, &self->accepted, read_as(&root), (size_t)root.len, to, read_as(&action), (size_t)action.len,
+            read_as(&version), (size_t)version.len, read_as(&body), (size_t)body.len, out, room, &told);
+        if (thread != NULL) {
+            PyEval_RestoreThread(thread);
+        }
+        if (status == SMITHY_DONE) {
+            answer = form_parts(out, &told);
+        } else if (status != SMITHY_NO_ROOM) {
+            answer = Py_BuildValue("iK", status, (unsigned long long)told.pair);
+        }
+        room = told.action_len + told.version_len + told.body_len;
+        free(out);
+    }
+    unlock(self);
+    return answer;
+}
+
 /* ---- the module */
 
 /* Loads the library from a file. */
@@ -332,9 +499,14 @@ static PyObject *load(PyObject *Py_UNUSED(module), PyObject *path)
         *(void **)&library.free = dlsym(file, "smithy_transcode_free");
         *(void **)&library.body = dlsym(file, "smithy_transcode_body");
         *(void **)&library.bodies = dlsym(file, "smithy_transcode_bodies");
+        *(void **)&library.compare = dlsym(file, "smithy_transcode_compare");
+        *(void **)&library.findings = dlsym(file, "smithy_transcode_findings");
+        *(void **)&library.form = dlsym(file, "smithy_transcode_form");
     }
-    if (library.accept == NULL || library.free == NULL || library.body == NULL || library.bodies == NULL) {
-        PyErr_SetString(PyExc_OSError, dlerror());
+    if (library.accept == NULL || library.free == NULL || library.body == NULL || library.bodies == NULL || library.compare == NULL
+        || library.findings == NULL || library.form == NULL) {
+        const char *fault = dlerror();
+        PyErr_SetString(PyExc_OSError, fault == NULL ? "the library lacks a function" : fault);
         return NULL;
     }
     Py_RETURN_NONE;
@@ -348,6 +520,9 @@ static PyObject *refuse_new(PyTypeObject *Py_UNUSED(type), PyObject *Py_UNUSED(a
 
 static PyMethodDef table_methods[] = {
     {"task", (PyCFunction)table_task, METH_VARARGS, NULL},
+    {"compare", (PyCFunction)table_compare, METH_VARARGS, NULL},
+    {"findings", (PyCFunction)table_findings, METH_VARARGS, NULL},
+    {"form", (PyCFunction)table_form, METH_VARARGS, NULL},
     {"close", (PyCFunction)table_close, METH_NOARGS, NULL},
     {NULL, NULL, 0, NULL},
 };

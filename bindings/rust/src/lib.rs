@@ -1,7 +1,8 @@
 //! Bodies of Smithy services from wire to wire, in process, by the proved library `libsmithy_transcode.a`.
 //!
 //! A [`Table`] is accepted once. [`Table::transcode`] then writes the canonical body, in the wanted wire, of the value that an input
-//! spells, or says why there is none.
+//! spells, or says why there is none. [`Table::compare`] tells where two bodies differ, [`Table::findings`] all that is wrong with one,
+//! and [`Table::form`] reads a form of AWS Query.
 //!
 //! ```
 //! use smithy_transcode::{Refusal, Source, Table, Target};
@@ -64,6 +65,63 @@ extern "C" {
         statuses_len: usize,
         done: *mut usize,
     ) -> u8;
+    fn smithy_transcode_compare(
+        table: Handle,
+        place: *mut Handle,
+        root: *const u8,
+        root_len: usize,
+        first_wire: u32,
+        first: *const u8,
+        first_len: usize,
+        second_wire: u32,
+        second: *const u8,
+        second_len: usize,
+        out: *mut u8,
+        out_room: usize,
+        path_len: *mut usize,
+    ) -> u8;
+    fn smithy_transcode_findings(
+        table: Handle,
+        place: *mut Handle,
+        root: *const u8,
+        root_len: usize,
+        from: u32,
+        input: *const u8,
+        input_len: usize,
+        lens: *mut usize,
+        lens_room: usize,
+        kinds: *mut u8,
+        kinds_room: usize,
+        out: *mut u8,
+        out_room: usize,
+        count: *mut usize,
+        len: *mut usize,
+    ) -> u8;
+    fn smithy_transcode_form(
+        table: Handle,
+        place: *mut Handle,
+        root: *const u8,
+        root_len: usize,
+        to: u32,
+        action: *const u8,
+        action_len: usize,
+        version: *const u8,
+        version_len: usize,
+        input: *const u8,
+        input_len: usize,
+        out: *mut u8,
+        out_room: usize,
+        told: *mut FormTold,
+    ) -> u8;
+}
+
+#[repr(C)]
+#[derive(Default)]
+struct FormTold {
+    action_len: usize,
+    version_len: usize,
+    body_len: usize,
+    pair: u64,
 }
 
 /// A wire that bodies are read from.
@@ -114,7 +172,113 @@ impl<'a> Target<'a> {
     }
 }
 
-/// Why there is no body, or no table.
+/// What is wrong with a body at a path.
+#[derive(Clone, Copy, Debug, PartialEq, Eq, Hash)]
+#[non_exhaustive]
+pub enum Kind {
+    /// The entry names no member of its structure or union.
+    Unknown,
+    /// What stands there is of another kind, or no value of its kind.
+    Mismatch,
+    /// A big number leaves the limits of its kind.
+    Wide,
+    /// The kind can't carry it: a fraction of a nanosecond, a number in a document, a document in CBOR.
+    NotCarried,
+    /// More than 128 containers would be open.
+    Deep,
+    /// A key of the container at the path is no text.
+    Key,
+    /// The union doesn't have one member.
+    Union,
+    /// A null stands in a list or a map that isn't sparse.
+    Null,
+}
+
+impl Kind {
+    fn of_number(number: u8) -> Kind {
+        match number {
+            1 => Kind::Unknown,
+            2 => Kind::Mismatch,
+            3 => Kind::Wide,
+            4 => Kind::NotCarried,
+            5 => Kind::Deep,
+            6 => Kind::Key,
+            7 => Kind::Union,
+            // 8, and no other
+            _ => Kind::Null,
+        }
+    }
+}
+
+impl fmt::Display for Kind {
+    fn fmt(&self, f: &mut fmt::Formatter<'_>) -> fmt::Result {
+        f.write_str(match self {
+            Kind::Unknown => "unknown",
+            Kind::Mismatch => "mismatch",
+            Kind::Wide => "wide",
+            Kind::NotCarried => "not carried",
+            Kind::Deep => "deep",
+            Kind::Key => "key",
+            Kind::Union => "union",
+            Kind::Null => "null",
+        })
+    }
+}
+
+/// What is found in a body at one path.
+#[derive(Clone, Copy, Debug, PartialEq, Eq, Hash)]
+pub struct Finding<'a> {
+    /// The text of the path, as `$.l[0]`.
+    pub path: &'a str,
+    /// What is wrong there.
+    pub kind: Kind,
+}
+
+/// All that is found in a body.
+#[derive(Clone, Debug, Default, PartialEq, Eq)]
+pub struct Findings {
+    texts: String,
+    lens: Vec<usize>,
+    kinds: Vec<u8>,
+}
+
+impl Findings {
+    /// How many findings there are.
+    pub fn len(&self) -> usize {
+        self.lens.len()
+    }
+
+    /// Nothing was found.
+    pub fn is_empty(&self) -> bool {
+        self.lens.is_empty()
+    }
+
+    /// The findings, in the order of the body.
+    pub fn iter(&self) -> impl Iterator<Item = Finding<'_>> {
+        let mut left = self.texts.as_str();
+        self.lens.iter().zip(&self.kinds).map(move |(&len, &kind)| {
+            let (path, rest) = left.split_at(len);
+            left = rest;
+            Finding {
+                path,
+                kind: Kind::of_number(kind),
+            }
+        })
+    }
+}
+
+/// A form of AWS Query that was read.
+#[derive(Clone, Debug, PartialEq, Eq)]
+pub struct Form {
+    /// The text of its pair `Action`.
+    pub action: String,
+    /// The text of its pair `Version`.
+    pub version: String,
+    /// The canonical body of its value in the wanted wire.
+    pub body: Vec<u8>,
+}
+
+/// Why there is no body, no answer or no table.
 #[derive(Clone, Copy, Debug, PartialEq, Eq, Hash)]
 #[non_exhaustive]
 pub enum Refusal {
@@ -140,9 +304,37 @@ pub enum Refusal {
     NoSuchShape,
     /// The root is no structure.
     NotAStructure,
+    /// As `InvalidInput`, of the second of two bodies.
+    SecondInvalidInput,
+    /// As `TooDeep`, of the second of two bodies.
+    SecondTooDeep,
+    /// As `TooWide`, of the second of two bodies.
+    SecondTooWide,
+    /// As `NotCarried`, of the second of two bodies.
+    SecondNotCarried,
+    /// The body is no text of its wire.
+    NotWellFormed,
+    /// More than 512 containers of the body nest.
+    TooNested,
+    /// The pair of this number, from 1, has no `=`, a `%` without two hexadecimal digits after it, or a side that isn't UTF-8.
+    BadPair(u64),
+    /// The first pair of the form isn't named `Action`, or the second isn't named `Version`.
+    NotAForm,
+    /// The pair of this number has the name of an earlier one.
+    RepeatedPath(u64),
+    /// The pairs of the form are those of no value of the root.
+    NoValue,
 }
 
 impl Refusal {
+    fn of_form(status: u8, pair: u64) -> Refusal {
+        match status {
+            70 => Refusal::BadPair(pair),
+            72 => Refusal::RepeatedPath(pair),
+            status => Refusal::of_status(status),
+        }
+    }
+
     fn of_status(status: u8) -> Refusal {
         match status {
             10 => Refusal::InvalidInput,
@@ -155,6 +347,14 @@ impl Refusal {
             20 => Refusal::TableRefused,
             21 => Refusal::NoSuchShape,
             22 => Refusal::NotAStructure,
+            41 => Refusal::SecondInvalidInput,
+            42 => Refusal::SecondTooDeep,
+            43 => Refusal::SecondTooWide,
+            44 => Refusal::SecondNotCarried,
+            61 => Refusal::NotWellFormed,
+            62 => Refusal::TooNested,
+            71 => Refusal::NotAForm,
+            73 => Refusal::NoValue,
             // 8, and no other: wires are enums, and the texts of a form are UTF-8
             _ => Refusal::OutOfMemory,
         }
@@ -164,25 +364,41 @@ impl Refusal {
 impl fmt::Display for Refusal {
     fn fmt(&self, f: &mut fmt::Formatter<'_>) -> fmt::Result {
         f.write_str(match self {
+            Refusal::BadPair(pair) => return write!(f, "bad pair {pair}"),
+            Refusal::RepeatedPath(pair) => return write!(f, "repeated path {pair}"),
             Refusal::OutOfMemory => "out of memory",
-            Refusal::InvalidInput => "invalid input",
-            Refusal::TooDeep => "too deep",
-            Refusal::TooWide => "number too wide",
-            Refusal::NotCarried => "not carried",
+            Refusal::InvalidInput | Refusal::SecondInvalidInput => "invalid input",
+            Refusal::TooDeep | Refusal::SecondTooDeep => "too deep",
+            Refusal::TooWide | Refusal::SecondTooWide => "number too wide",
+            Refusal::NotCarried | Refusal::SecondNotCarried => "not carried",
             Refusal::Document => "document not expressible",
             Refusal::Null => "null not expressible",
             Refusal::Instant => "instant not expressible",
             Refusal::TableRefused => "table refused",
             Refusal::NoSuchShape => "no such shape",
             Refusal::NotAStructure => "not a structure",
+            Refusal::NotWellFormed => "not well formed",
+            Refusal::TooNested => "too nested",
+            Refusal::NotAForm => "not a form",
+            Refusal::NoValue => "no value",
         })
     }
 }
 
 impl Error for Refusal {}
 
-// The answer of a call whose room is too short.
+// The answers of a call whose room is too short, of one over bodies that differ, and of one that found something.
 const NO_ROOM: u8 = 24;
+const DIFFERS: u8 = 40;
+const FOUND: u8 = 60;
+
+// The text that the library wrote. Paths, actions and versions are UTF-8, so nothing of it is replaced.
+fn text_of(bytes: Vec<u8>) -> String {
+    match String::from_utf8(bytes) {
+        Ok(text) => text,
+        Err(fault) => String::from_utf8_lossy(fault.as_bytes()).into_owned(),
+    }
+}
 
 // What many bodies are given, and what they come to.
 #[derive(Default)]
@@ -310,6 +526,174 @@ impl Table {
             left = &left[done..];
         }
         Ok(())
+    }
+
+    /// The text of the first path at which the values of two bodies of the root differ, or `None` where both spell one value.
+    ///
+    /// ```
+    /// use smithy_transcode::{Refusal, Source, Table};
+    ///
+    /// let mut table = Table::accept(b"structure S\nmember a integer\nmember l L\nlist L string\n")?;
+    /// let first = br#"{"l":["x"], "a" : 7}"#;
+    /// assert_eq!(table.compare("S", Source::Json, first, Source::Cbor, b"\xa2\x61a\x07\x61l\x81\x61x")?, None);
+    /// let path = table.compare("S", Source::Json, first, Source::Json, br#"{"a":7,"l":["x","y"]}"#)?;
+    /// assert_eq!(path.as_deref(), Some("$.l[1]"));
+    /// # Ok::<(), Refusal>(())
+    /// ```
+    pub fn compare(
+        &mut self,
+        root: &str,
+        first_wire: Source,
+        first: &[u8],
+        second_wire: Source,
+        second: &[u8],
+    ) -> Result<Option<String>, Refusal> {
+        let mut path = vec![0; 256];
+        loop {
+            let mut path_len = 0;
+            // SAFETY: each slice is memory that may be read, `path` is borrowed alone, and `&mut self` makes this the table's one call.
+            let status = unsafe {
+                smithy_transcode_compare(
+                    self.0,
+                    &mut self.0,
+                    root.as_ptr(),
+                    root.len(),
+                    first_wire as u32,
+                    first.as_ptr(),
+                    first.len(),
+                    second_wire as u32,
+                    second.as_ptr(),
+                    second.len(),
+                    path.as_mut_ptr(),
+                    path.len(),
+                    &mut path_len,
+                )
+            };
+            match status {
+                0 => return Ok(None),
+                DIFFERS => {
+                    path.truncate(path_len);
+                    return Ok(Some(text_of(path)));
+                }
+                NO_ROOM => path.resize(path_len, 0),
+                status => return Err(Refusal::of_status(status)),
+            }
+        }
+    }
+
+    /// All that is wrong with a body of the root, and each entry that the table doesn't know, in the order of the body. Nothing is found
+    /// exactly where the body spells a value and has no unknown entry.
+    ///
+    /// ```
+    /// use smithy_transcode::{Finding, Kind, Refusal, Source, Table};
+    ///
+    /// let mut table = Table::accept(b"structure S\nmember a integer\nmember l L\nlist L string\n")?;
+    /// let findings = table.findings("S", Source::Json, br#"{"z":1, "l":[null]}"#)?;
+    /// let first = findings.iter().next();
+    /// assert_eq!(first, Some(Finding { path: "${\"z\"}", kind: Kind::Unknown }));
+    /// for finding in findings.iter() {
+    ///     println!("{} {}", finding.path, finding.kind);
+    /// }
+    /// # Ok::<(), Refusal>(())
+    /// ```
+    pub fn findings(
+        &mut self,
+        root: &str,
+        source: Source,
+        body: &[u8],
+    ) -> Result<Findings, Refusal> {
+        let (mut lens, mut kinds, mut texts) = (vec![0; 16], vec![0; 16], vec![0; 1024]);
+        loop {
+            let (mut count, mut len) = (0, 0);
+            // SAFETY: each slice is memory that may be read, each vector is borrowed alone, and `&mut self` makes this the table's one call.
+            let status = unsafe {
+                smithy_transcode_findings(
+                    self.0,
+                    &mut self.0,
+                    root.as_ptr(),
+                    root.len(),
+                    source as u32,
+                    body.as_ptr(),
+                    body.len(),
+                    lens.as_mut_ptr(),
+                    lens.len(),
+                    kinds.as_mut_ptr(),
+                    kinds.len(),
+                    texts.as_mut_ptr(),
+                    texts.len(),
+                    &mut count,
+                    &mut len,
+                )
+            };
+            match status {
+                0 | FOUND => {
+                    lens.truncate(count);
+                    kinds.truncate(count);
+                    texts.truncate(len);
+                    let texts = text_of(texts);
+                    return Ok(Findings { texts, lens, kinds });
+                }
+                NO_ROOM => {
+                    lens.resize(count, 0);
+                    kinds.resize(count, 0);
+                    texts.resize(len, 0);
+                }
+                status => return Err(Refusal::of_status(status)),
+            }
+        }
+    }
+
+    /// The action, the version and the value of a form of AWS Query, whose body is written in the wire `to`.
+    ///
+    /// ```
+    /// use smithy_transcode::{Refusal, Table, Target};
+    ///
+    /// let mut table = Table::accept(b"structure S\nmember a integer\n")?;
+    /// let form = table.form("S", b"Action=Do&Version=1&a=7", Target::Json)?;
+    /// assert_eq!((form.action.as_str(), form.version.as_str()), ("Do", "1"));
+    /// assert_eq!(form.body, br#"{"a":7}"#);
+    /// # Ok::<(), Refusal>(())
+    /// ```
+    pub fn form(&mut self, root: &str, input: &[u8], to: Target<'_>) -> Result<Form, Refusal> {
+        let (to, action, version) = to.numbered();
+        let mut out = vec![0; input.len() + 256];
+        loop {
+            let mut told = FormTold::default();
+            // SAFETY: each slice is memory that may be read, `out` is borrowed alone, and `&mut self` makes this the table's one call.
+            let status = unsafe {
+                smithy_transcode_form(
+                    self.0,
+                    &mut self.0,
+                    root.as_ptr(),
+                    root.len(),
+                    to,
+                    action.as_ptr(),
+                    action.len(),
+                    version.as_ptr(),
+                    version.len(),
+                    input.as_ptr(),
+                    input.len(),
+                    out.as_mut_ptr(),
+                    out.len(),
+                    &mut told,
+                )
+            };
+            let len = told.action_len + told.version_len + told.body_len;
+            match status {
+                0 => {
+                    out.truncate(len);
+                    let body = out.split_off(told.action_len + told.version_len);
+                    let version = out.split_off(told.action_len);
+                    return Ok(Form {
+                        action: text_of(out),
+                        version: text_of(version),
+                        body,
+                    });
+                }
+                NO_ROOM => out.resize(len, 0),
+                status => return Err(Refusal::of_form(status, told.pair)),
+            }
+        }
     }
 
     // How many of a batch, one at least, were done.
