@@ -14,6 +14,7 @@ pub mod ReadLemmas
 pub mod Segments
 pub mod FindLemmas
 pub mod OrderLemmas
+pub mod PlaceLemmas
 pub mod NameOrder
 pub mod RepeatLemmas
 pub mod SortLemmas

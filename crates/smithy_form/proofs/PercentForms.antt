@@ -1,9 +1,14 @@
 -- Sides of pairs: what the front of one stands for, and sides in which each byte stands for itself.
-use Rattle.std.proofs.Common.{◌≡◌, ◌≢◌, ◌<◌, ◌*◌, ◌+◌, ◌==◌, ◌&&◌, ◌||◌, ℕ, List, [], ◌∷◌, ◌++◌, length, Bool, true, false, Some, None, if◌then◌else◌, refl, sym, ◌∙◌, ap, subst, arith}
+use Rattle.std.proofs.Common.{◌≡◌, ◌≢◌, ◌<◌, ◌*◌, ◌+◌, ◌==◌, ◌&&◌, ◌||◌, ℕ, List, [], ◌∷◌, ◌++◌, length, Bool, true, false, Option, Some, None, if◌then◌else◌, refl, sym, ◌∙◌, ap, subst, arith}
 use Rattle.std.specs.Char.{digit_value, is_digit}
 use Rattle.std.specs.List.{list_any}
 use Rattle.std.proofs.lemmas.Bool.Decides.{nat_tests}
-use Rattle.std.proofs.lemmas.List.{append-nil}
+use Rattle.std.proofs.lemmas.List.{append-nil, get_or_default}
+use Rattle.std.proofs.lemmas.List.Folds.{list_any_none, list_any_at}
+use Rattle.std.proofs.lemmas.List.Elements.{All-from_all_within}
+use Rattle.std.proofs.lemmas.Bool.{false_from_ne_true}
+use Rattle.std.specs.Option.{is_some}
+use Rattle.memchr.specs.Find.{IsFirstByte, is_byte2}
 use Rattle.percent_encoding.specs.Percent.{percent_decode}
 use Rattle.percent_encoding.proofs.PercentLemmas.{percent_decode-nil, percent_decode_escape, percent_decode_not_percent}
 use Rattle.smithy_form.specs.Forms.{has_whole_escapes, spaced}
@@ -86,3 +91,10 @@ stands_for_itself (b ∷ side) none =
     parts true y z h = cc
     parts false true z h = cc
     parts false false true h = cc
+
+-- a search for `%` and `+` finds whether some byte is coded
+pub coded_found : (side : List ℕ) (place : Option ℕ) → IsFirstByte (is_byte2 37 43) side place → is_some place ≡ list_any is_coded side
+coded_found side None none =
+    sym (list_any_none is_coded side (All-from_all_within (λ b. is_coded b ≡ false) side
+    (λ k d low high. ap is_coded (get_or_default side k d 0 high) ∙ false_from_ne_true _ (none k low high))))
+coded_found side (Some k) found = sym (list_any_at is_coded side k 0 found.0.high found.1)

@@ -5,6 +5,9 @@ use Rattle.std.specs.List.{slice_split, position_or_len, list_any}
 use Rattle.std.proofs.lemmas.Bool.Decides.{nat_tests}
 use Rattle.std.proofs.lemmas.List.{append-nil, length-append, take_all}
 use Rattle.std.proofs.lemmas.List.Splits.{slice_split_first}
+use Rattle.std.proofs.lemmas.List.Sums.{position_or_len_is}
+use Rattle.std.proofs.lemmas.Bool.{false_from_ne_true}
+use Rattle.memchr.specs.Find.{IsFirstByte, is_byte}
 use Rattle.smithy_query.specs.Split.{is_ampersand, is_equals}
 use Rattle.smithy_form.specs.declared.error.FormError.{FormError}
 use Rattle.smithy_form.specs.declared.error.FormError.TheVariants.{BadPair, NoMemory}
@@ -38,6 +41,16 @@ one_passes p (x ∷ xs) at = by (p x) refl (λ h. one_passes p xs h)
     by false is again =
         let here : position_or_len p (x ∷ xs) ≡ 1 + position_or_len p xs = rw is refl in
         rw is (again (omega (arith, at, here)))
+
+-- ---- what a search for a byte answers
+
+pub place_found : (byte : ℕ) (xs : List ℕ) (k : ℕ) → IsFirstByte (is_byte byte) xs (Some k) → k ≡ position_or_len (λ b. b == byte) xs
+place_found byte xs k found =
+    sym (position_or_len_is (λ b. b == byte) xs k 0 (omega (arith, found.0.high)) (λ j less. false_from_ne_true _ (found.0.before j (omega arith) less)) (λ _. found.1))
+
+pub place_missing : (byte : ℕ) (xs : List ℕ) → IsFirstByte (is_byte byte) xs None → length xs ≡ position_or_len (λ b. b == byte) xs
+place_missing byte xs none =
+    sym (position_or_len_is (λ b. b == byte) xs (length xs) 0 (omega arith) (λ j less. false_from_ne_true _ (none j (omega arith) less)) (λ less. absurd (omega (arith, less))))
 
 -- ---- one pair
 

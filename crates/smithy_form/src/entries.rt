@@ -25,7 +25,7 @@ fn key_in<'p>(entry: &'p [Pair<'_>], at: usize, name: &str) -> Option<&'p str>
     requires sorted { LeavesAscend (kept_leaves at entry.now) }
     ensures { TellsText name.now (kept_leaves at entry.now) (option_map (λ s. s.now) result) }
 {
-    let keys = with_segment(entry, at, name.as_bytes());
+    let keys = with_segment(entry, 0, at, name.as_bytes());
     if keys.is_empty() {
         return None;
     }
@@ -33,9 +33,11 @@ fn key_in<'p>(entry: &'p [Pair<'_>], at: usize, name: &str) -> Option<&'p str>
     Some(pair.text.as_str())
 }
 
-/// The entry of this number: its pairs are its key and those of its value, and no others.
+/// The entry of this number: its pairs are its key and those of its value, and no others. It is found at once where it begins at the
+/// index `near`.
 pub(crate) fn find_entry<'p, 'a>(
     pairs: &'p [Pair<'a>],
+    near: usize,
     at: usize,
     number: u64,
     key_name: &str,
@@ -46,13 +48,13 @@ pub(crate) fn find_entry<'p, 'a>(
 {
     let mut buffer = Buffer::new();
     let segment = buffer.format(number);
-    let entry = with_segment(pairs, at, segment.as_bytes());
+    let entry = with_segment(pairs, near, at, segment.as_bytes());
     if entry.is_empty() {
         return None;
     }
     let inner = at + segment.len() + 1;
     let key = key_in(entry, inner, key_name)?;
-    let values = with_segment(entry, inner, value_name.as_bytes());
+    let values = with_segment(entry, 1, inner, value_name.as_bytes());
     if values.is_empty() {
         return None;
     }

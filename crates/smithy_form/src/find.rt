@@ -1,10 +1,11 @@
 //! Pairs by the segments of their names.
-ghost use Rattle.std.specs.Prelude.{◌≡◌, ◌≢◌, ◌≤◌, ◌<◌, ◌+◌, ◌^◌, ℕ, suc, List, [], ◌∷◌, length, drop, MatchOption};
+ghost use Rattle.std.specs.Prelude.{◌≡◌, ◌≢◌, ◌≤◌, ◌<◌, ◌+◌, ◌^◌, ℕ, suc, List, [], ◌∷◌, length, drop, IsTrue, MatchOption};
 ghost use Rattle.std.specs.Cow.{cow_str_bytes};
+ghost use Rattle.std.specs.List.Sorted.{IsPartitionedBy};
 ghost use Rattle.smithy_query_codec.specs.Leaves.{leaf};
 ghost use Rattle.smithy_form.specs.Lookup.{inside, AreSame};
 ghost use Rattle.smithy_form.specs.Private.Names.{segment_cmp, rest_path, first_cmp};
-ghost use Rattle.smithy_form.specs.Private.Kept.{kept_leaves, is_before as is_pair_before, is_not_behind as is_pair_not_behind};
+ghost use Rattle.smithy_form.specs.Private.Kept.{kept_leaves, is_before as is_pair_before, is_not_behind as is_pair_not_behind, BeginsAt, EndsAt};
 ghost use Rattle.smithy_form.specs.Private.Order.{LeavesAscend, name_cmp};
 
 use crate::pairs::Pair;
@@ -123,9 +124,82 @@ fn is_not_behind(pair: &Pair<'_>, at: usize, segment: &[u8]) -> bool
     }
 }
 
-/// The pairs whose names have this segment at this place, among sorted pairs.
+// Whether the pairs that aren't before the segment begin at this index.
+fn begin_there(pairs: &[Pair<'_>], near: usize, at: usize, segment: &[u8]) -> bool
+    requires { IsPartitionedBy (is_pair_before at segment.now) pairs.now }
+    ensures { IsTrue result → BeginsAt at segment.now pairs.now near }
+{
+    if near >= pairs.len() || is_before(&pairs[near], at, segment) {
+        return false;
+    }
+    if near == 0 {
+        return true;
+    }
+    is_before(&pairs[near - 1], at, segment)
+}
+
+// Whether all pairs are before the segment.
+fn are_before(pairs: &[Pair<'_>], at: usize, segment: &[u8]) -> bool
+    requires { IsPartitionedBy (is_pair_before at segment.now) pairs.now }
+    ensures { IsTrue result → BeginsAt at segment.now pairs.now (length pairs.now) }
+{
+    let count = pairs.len();
+    if count == 0 {
+        return true;
+    }
+    is_before(&pairs[count - 1], at, segment)
+}
+
+/// Where the pairs begin that aren't before the segment. They are looked for first at a place where they begin if all pairs that were
+/// found so far are before them.
+fn begin_of(pairs: &[Pair<'_>], near: usize, at: usize, segment: &[u8]) -> usize
+    requires { IsPartitionedBy (is_pair_before at segment.now) pairs.now }
+    ensures { BeginsAt at segment.now pairs.now result }
+{
+    if begin_there(pairs, near, at, segment) {
+        return near;
+    }
+    if are_before(pairs, at, segment) {
+        return pairs.len();
+    }
+    pairs.partition_point(|pair| is_before(pair, at, segment))
+}
+
+// Whether no pair is behind the segment.
+fn none_is_behind(pairs: &[Pair<'_>], at: usize, segment: &[u8]) -> bool
+    requires { IsPartitionedBy (is_pair_not_behind at segment.now) pairs.now }
+    ensures { IsTrue result → EndsAt at segment.now pairs.now (length pairs.now) }
+{
+    let count = pairs.len();
+    if count == 0 {
+        return true;
+    }
+    is_not_behind(&pairs[count - 1], at, segment)
+}
+
+// How many pairs at the front aren't behind the segment. Each of them is read later, so that they are counted costs little.
+fn count_of(pairs: &[Pair<'_>], at: usize, segment: &[u8]) -> usize
+    requires { IsPartitionedBy (is_pair_not_behind at segment.now) pairs.now }
+    ensures { EndsAt at segment.now pairs.now result }
+{
+    if none_is_behind(pairs, at, segment) {
+        return pairs.len();
+    }
+    let mut count = 0;
+    while count < pairs.len() {
+        if !is_not_behind(&pairs[count], at, segment) {
+            return count;
+        }
+        count += 1;
+    }
+    count
+}
+
+/// The pairs whose names have this segment at this place, among sorted pairs. They are found at once where they begin at the index
+/// `near`.
 pub(crate) fn with_segment<'p, 'a>(
     pairs: &'p [Pair<'a>],
+    near: usize,
     at: usize,
     segment: &[u8],
 ) -> &'p [Pair<'a>]
@@ -134,9 +208,9 @@ pub(crate) fn with_segment<'p, 'a>(
     ensures sorted { LeavesAscend (kept_leaves (at + suc (length segment.now)) result.now) }
     ensures room { result.now ≢ [] → at + length segment.now < 2 ^ 63 }
 {
-    let from = pairs.partition_point(|pair| is_before(pair, at, segment));
+    let from = begin_of(pairs, near, at, segment);
     let rest = pairs_from(pairs, from);
-    let count = rest.partition_point(|pair| is_not_behind(pair, at, segment));
+    let count = count_of(rest, at, segment);
     &rest[..count]
 }
 

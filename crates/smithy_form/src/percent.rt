@@ -8,6 +8,7 @@ ghost use Rattle.percent_encoding.specs.Percent.{percent_decode};
 ghost use Rattle.smithy_form.specs.Forms.{has_whole_escapes, spaced, side_text};
 ghost use Rattle.smithy_form.specs.Private.Splitting.{is_coded, ReadsFront};
 
+use memchr::memchr2;
 use std::alloc::{AllocError, Global};
 use std::borrow::CowStr;
 use std::str;
@@ -58,12 +59,7 @@ fn decoded_bytes(alloc: Global, side: &[u8]) -> Result<Option<Vec<u8>>, AllocErr
 fn has_coded(side: &[u8]) -> bool
     ensures { result ≡ list_any is_coded side.now }
 {
-    for byte in side {
-        if *byte == b'%' || *byte == b'+' {
-            return true;
-        }
-    }
-    false
+    memchr2(b'%', b'+', side).is_some()
 }
 
 // The text that some bytes are.

@@ -8,6 +8,7 @@ use crate::error::FormError;
 use crate::find::bytes_from;
 use crate::pairs::Pair;
 use crate::percent::decode;
+use memchr::memchr;
 use std::alloc::Global;
 
 /// The place of the first byte of this kind, or the end.
@@ -16,11 +17,10 @@ fn place_of(bytes: &[u8], byte: u8) -> usize
     ensures within { result ≤ length bytes.now }
     ensures few { length bytes.now < 2 ^ 64 }
 {
-    let mut at = 0;
-    while at < bytes.len() && bytes[at] != byte {
-        at += 1;
+    match memchr(byte, bytes) {
+        Some(place) => place,
+        None => bytes.len(),
     }
-    at
 }
 
 /// The pair that a piece is.

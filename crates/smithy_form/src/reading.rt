@@ -112,7 +112,7 @@ pub(crate) fn read_structure<'a>(
         let Some(name) = query_name(&member) else {
             unreachable!()
         };
-        let inside = with_segment(pairs, at, name.as_bytes());
+        let inside = with_segment(pairs, taken, at, name.as_bytes());
         let index = position;
         position += 1;
         if inside.is_empty() {
@@ -147,7 +147,7 @@ fn read_union<'a>(
         let Some(name) = query_name(&member) else {
             unreachable!()
         };
-        let inside = with_segment(pairs, at, name.as_bytes());
+        let inside = with_segment(pairs, 0, at, name.as_bytes());
         let index = position;
         position += 1;
         if inside.is_empty() {
@@ -191,7 +191,7 @@ fn read_list<'a>(
         return Ok(Value::List(elements));
     }
     let name = part_name(&element, "member");
-    let inside = with_segment(pairs, at, name.as_bytes());
+    let inside = with_segment(pairs, 0, at, name.as_bytes());
     if inside.len() < pairs.len() {
         return Err(FormError::NoValue);
     }
@@ -225,7 +225,7 @@ fn read_elements<'a>(
         let mut buffer = Buffer::new();
         let number = elements.len() as u64 + 1;
         let segment = buffer.format(number);
-        let inside = with_segment(pairs, at, segment.as_bytes());
+        let inside = with_segment(pairs, taken, at, segment.as_bytes());
         if inside.is_empty() {
             return Err(FormError::NoValue);
         }
@@ -259,7 +259,7 @@ fn read_map<'a>(
         return Ok(Value::Map(entries));
     }
     let name = "entry";
-    let inside = with_segment(pairs, at, name.as_bytes());
+    let inside = with_segment(pairs, 0, at, name.as_bytes());
     if inside.len() < pairs.len() {
         return Err(FormError::NoValue);
     }
@@ -295,7 +295,7 @@ fn read_entries<'a>(
     let mut taken = 0;
     while taken < pairs.len() {
         let number = entries.len() as u64 + 1;
-        let Some(entry) = find_entry(pairs, at, number, key_name, value_name) else {
+        let Some(entry) = find_entry(pairs, taken, at, number, key_name, value_name) else {
             return Err(FormError::NoValue);
         };
         if !is_above(entry.key, before) {
