@@ -43,7 +43,7 @@ fn part_of(alloc: Global, label: &Label<'_>) -> Result<PathPart, AllocError>
 fn path_parts(alloc: Global, labels: &[Label<'_>]) -> Result<Vec<PathPart>, AllocError>
     ensures { IfOk result (λ parts. parts_path parts ≡ mapped label_step labels.now) }
 {
-    let mut parts = Vec::new(alloc);
+    let mut parts = Vec::with_capacity(alloc, labels.len())?;
     for label in labels {
         parts.push(part_of(alloc, label)?)?;
     }
