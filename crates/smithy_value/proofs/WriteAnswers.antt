@@ -1,5 +1,5 @@
 -- What a write of a value answers, by each way out of it: one record for each.
-use Rattle.std.proofs.Common.{◌≡◌, ◌↔◌, [], ◌∷◌, Bool, true, false, Result, Ok, Err, IfErr, IsErr, IsErrOf, OnOk, ap, refl, sym, ◌∙◌}
+use Rattle.std.proofs.Common.{◌≡◌, ◌↔◌, [], ◌∷◌, Bool, true, false, Result, Ok, Err, IfErr, IsErr, IsErrAnd, IsErrOf, OnOk, ap, refl, sym, subst, ◌∙◌}
 use Rattle.smithy_schema.specs.declared.error.SerdeError.{SerdeError}
 use Rattle.smithy_schema.specs.declared.error.SerdeError.TheVariants.{InvalidInput, TypeMismatch, TooDeep, TooWide, NotCarried, Unsupported, Unwritable, Missing, Failed, NoMemory}
 use Rattle.smithy_schema.specs.Errors.{IsFault}
@@ -66,6 +66,11 @@ module _ {S : Type 0} where
       only_memory e
       (λ fault. let both : ◌≡◌ {A = Result S SerdeError} (Ok state) (Err e) = sym can ∙ writes.refused fault in cc)
       (λ is. let both : true ≡ false = sym (writes.failed.0 (failed_as {A = Unit {0}} e is)) ∙ sound in cc)
+
+  -- an error of a call is the answer
+  pub answered : {made : Result S SerdeError} {had has : Bool} {new : S} (result : Answer) (e : SerdeError) → IsErrAnd result (λ x. x ≡ e) → WritesValue made had has new (Err e) → WritesValue made had has new result
+  answered (Ok u) e is writes = absurd is
+  answered {made} {had} {has} {new} (Err x) e is writes = subst (λ (y : SerdeError). WritesValue made had has new (Err y)) (sym is) writes
 
   -- a call of a serializer
   pub called : (made : Result S SerdeError) (had has : Bool) (new : S) (result : Answer)

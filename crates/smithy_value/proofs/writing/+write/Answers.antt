@@ -1,5 +1,4 @@
 use Rattle.std.proofs.Common.{rules, arith, map as mapped, ◌≡◌, ap, refl, ◌∙◌}
-use Rattle.std.proofs.lemmas.Result.{err_from_is_err_and}
 use Rattle.std.proofs.lemmas.List.{drop_all}
 use Rattle.smithy_shapes.specs.Site.{site_of}
 use Rattle.smithy_declarations.specs.Value.{nesting, no_member_values}
@@ -12,15 +11,14 @@ use Rattle.smithy_value.proofs.Maps as maps
 use Rattle.smithy_value.proofs.Standing.{same_stand, first_stands, next_stands}
 use Rattle.smithy_value.proofs.Structures as structures
 use Rattle.smithy_value.proofs.Unions as unions
-use Rattle.smithy_value.proofs.WriteAnswers.{called, all_called, had_not_failed, has_not_failed, first_fails, later_fails, last_called}
+use Rattle.smithy_value.proofs.WriteAnswers.{answered, called, all_called, had_not_failed, has_not_failed, first_fails, later_fails, last_called}
 use Rattle.smithy_value.proofs.writing.+write.Goals as goal
 
 pub write_list-returns-in_err-begin_list : goal.write_list-returns-in_err-begin_list
 write_list-returns-in_err-begin_list g t c =
     let view = g.P.Trees.view c.args.trees.now in
     let told = c.in_err-begin_list.ensures in
-    let p = err_from_is_err_and c.from_residual.result c.from_residual.ensures.1 in
-    record { writes = rw (p.1, p.2) (first_fails _ _ _ _ _ _ (called _ _ _ _ _ told.failed told.broken tt told.refused) (lists.list_refused g.S.ShapeSerializer.after (site_of c.args.schema.now) (mapped view c.args.elements.now) _ (g.S.ShapeSerializer.state c.args.sink.now) _ (lists.told view c.args.elements.now))) }
+    record { writes = answered _ _ c.from_residual.ensures.1 (first_fails _ _ _ _ _ _ (called _ _ _ _ _ told.failed told.broken tt told.refused) (lists.list_refused g.S.ShapeSerializer.after (site_of c.args.schema.now) (mapped view c.args.elements.now) _ (g.S.ShapeSerializer.state c.args.sink.now) _ (lists.told view c.args.elements.now))) }
 
 pub write_list-loop-element-init : goal.write_list-loop-element-init
 write_list-loop-element-init g t c =
@@ -48,11 +46,10 @@ write_list-returns-in_err-write_tree g t c =
     let key = g.P.Trees.key_of c.args.trees.now in
     let position = g.P.Trees.position_of in
     let root = part_view view key position c.part.result in
-    let p = err_from_is_err_and c.from_residual-in_err-write_tree.result c.from_residual-in_err-write_tree.ensures.1 in
     let next = lists.next_element view c.args.elements.now c.loop-element.element-index c.element-item.result _ c.loop-element-test.true c.element-item.is c.part.ensures.shows in
     let site = lists.element_site_is (site_of c.args.schema.now) (site_of c.in-Some.member) (site_of c.nameless-element_schema.result) (inner_element (site_of c.args.schema.now) _ c.requires.fits.0 c.in-Some.ensures) c.nameless-element_schema.ensures in
     record {
-      writes = rw (p.1, p.2)
+      writes = answered _ _ c.from_residual-in_err-write_tree.ensures.1
           (later_fails _ _ _ _ _ _ _ c.loop-element.invariant.before c.loop-element.invariant.failed (rw site at c.in_err-write_tree.ensures.writes) (λ refused. c.loop-element.invariant.rest ∙ lists.element_refused g.S.ShapeSerializer.after (site_of c.args.schema.now) root _ _ (g.S.ShapeSerializer.state c.loop-element.sink) _ next refused));
     }
 
@@ -76,8 +73,7 @@ write_list-loop-element-preserved g t c =
 pub write_structure-returns-in_err-begin_struct : goal.write_structure-returns-in_err-begin_struct
 write_structure-returns-in_err-begin_struct g t c =
     let told = c.in_err-begin_struct.ensures in
-    let p = err_from_is_err_and c.from_residual.result c.from_residual.ensures.1 in
-    record { writes = rw (p.1, p.2) (first_fails _ _ _ _ _ _ (called _ _ _ _ _ told.failed told.broken tt told.refused) (call_refused g.S.ShapeSerializer.after _ _ (g.S.ShapeSerializer.state c.args.sink.now) _)) }
+    record { writes = answered _ _ c.from_residual.ensures.1 (first_fails _ _ _ _ _ _ (called _ _ _ _ _ told.failed told.broken tt told.refused) (call_refused g.S.ShapeSerializer.after _ _ (g.S.ShapeSerializer.state c.args.sink.now) _)) }
 
 pub write_structure-loop-position-init : goal.write_structure-loop-position-init
 write_structure-loop-position-init g t c =
@@ -128,19 +124,17 @@ write_structure-returns-in_err-write_tree g t c =
     let key = g.P.Trees.key_of c.args.trees.now in
     let position = g.P.Trees.position_of in
     let root = part_view view key position c.part.result in
-    let p = err_from_is_err_and c.from_residual-in_err-write_tree.result c.from_residual-in_err-write_tree.ensures.1 in
     let next = structures.next_member _ _ _ _ _ (c.in-Some.ensures.shows view) c.part.ensures.shows in
     let site = structures.member_site_is (site_of c.args.schema.now) c.in-Some.position (site_of c.in-Some-member_at.member_schema) c.in-Some-member_at.ensures in
     record {
-      writes = rw (p.1, p.2)
+      writes = answered _ _ c.from_residual-in_err-write_tree.ensures.1
           (later_fails _ _ _ _ _ _ _ c.loop-position.invariant.before c.loop-position.invariant.failed (rw site at c.in_err-write_tree.ensures.writes) (λ refused. c.loop-position.invariant.rest ∙ structures.member_refused g.S.ShapeSerializer.after (site_of c.args.schema.now) c.in-Some.position root _ _ (g.S.ShapeSerializer.state c.loop-position.sink) _ next refused));
     }
 
 pub write_union-returns-in_err-begin_struct : goal.write_union-returns-in_err-begin_struct
 write_union-returns-in_err-begin_struct g t c =
     let told = c.in_err-begin_struct.ensures in
-    let p = err_from_is_err_and c.from_residual.result c.from_residual.ensures.1 in
-    record { writes = rw (p.1, p.2) (first_fails _ _ _ _ _ _ (called _ _ _ _ _ told.failed told.broken tt told.refused) (call_refused g.S.ShapeSerializer.after _ _ (g.S.ShapeSerializer.state c.args.sink.now) _)) }
+    record { writes = answered _ _ c.from_residual.ensures.1 (first_fails _ _ _ _ _ _ (called _ _ _ _ _ told.failed told.broken tt told.refused) (call_refused g.S.ShapeSerializer.after _ _ (g.S.ShapeSerializer.state c.args.sink.now) _)) }
 
 pub write_union-write_tree-requires : goal.write_union-write_tree-requires
 write_union-write_tree-requires g t c κs within =
@@ -153,10 +147,9 @@ pub write_union-returns-in_err-write_tree :
     goal.write_union-returns-in_err-write_tree
 write_union-returns-in_err-write_tree g t c =
     let view = g.P.Trees.view c.args.trees.now in
-    let p = err_from_is_err_and c.from_residual-in_err-write_tree.result c.from_residual-in_err-write_tree.ensures.1 in
     let site = structures.member_site_is (site_of c.args.schema.now) c.args.index (site_of c.in-Some.member) c.in-Some.ensures in
     record {
-      writes = rw (p.1, p.2)
+      writes = answered _ _ c.from_residual-in_err-write_tree.ensures.1
           (later_fails _ _ _ _ _ _ _ (had_not_failed _ _ c.in_ok-begin_struct.ensures.failed) (has_not_failed _ _ c.in_ok-begin_struct.ensures.broken) (rw (site, ← c.part.ensures.shows) at c.in_err-write_tree.ensures.writes)
           (λ refused. unions.variant_refused g.S.ShapeSerializer.after (site_of c.args.schema.now) c.args.index (view c.args.value.now) (g.S.ShapeSerializer.state c.args.sink.now) _ _ c.in_ok-begin_struct.ensures.ok refused));
     }
@@ -174,8 +167,7 @@ write_map-returns-in_err-begin_map g t c =
     let view = g.P.Trees.view c.args.trees.now in
     let key = g.P.Trees.key_of c.args.trees.now in
     let told = c.in_err-begin_map.ensures in
-    let p = err_from_is_err_and c.from_residual.result c.from_residual.ensures.1 in
-    record { writes = rw (p.1, p.2) (first_fails _ _ _ _ _ _ (called _ _ _ _ _ told.failed told.broken tt told.refused) (maps.map_refused g.S.ShapeSerializer.after (site_of c.args.schema.now) (entries_view view key c.args.entries.now) _ (g.S.ShapeSerializer.state c.args.sink.now) _ (c.len.ensures view key))) }
+    record { writes = answered _ _ c.from_residual.ensures.1 (first_fails _ _ _ _ _ _ (called _ _ _ _ _ told.failed told.broken tt told.refused) (maps.map_refused g.S.ShapeSerializer.after (site_of c.args.schema.now) (entries_view view key c.args.entries.now) _ (g.S.ShapeSerializer.state c.args.sink.now) _ (c.len.ensures view key))) }
 
 pub write_map-loop-key-init : goal.write_map-loop-key-init
 write_map-loop-key-init g t c =
@@ -231,25 +223,23 @@ write_map-returns-in_err-write_tree g t c =
     let key = g.P.Trees.key_of c.args.trees.now in
     let position = g.P.Trees.position_of in
     let root = part_view view key position c.part.result in
-    let p = err_from_is_err_and c.from_residual-in_err-write_tree.result c.from_residual-in_err-write_tree.ensures.1 in
     let next = maps.next_entry _ _ _ _ _ c.in-Some-next_entry.ensures.shows c.part.ensures.shows in
     let inner = inner_value (site_of c.args.schema.now) (site_of c.in-Some-member.member) c.requires.fits.0 c.in-Some-member.ensures in
     let key_site = maps.key_site_is (site_of c.args.schema.now) (site_of c.in-Some.key_schema) c.in-Some.ensures in
     let value_site = maps.value_site_is (site_of c.args.schema.now) (site_of c.in-Some-member.member) (site_of c.nameless-value_schema.result) inner c.nameless-value_schema.ensures in
     let named = rw key_site at c.in_ok-write_string.ensures.ok in
     record {
-      writes = rw (p.1, p.2)
+      writes = answered _ _ c.from_residual-in_err-write_tree.ensures.1
           (later_fails _ _ _ _ _ _ _ c.loop-key.invariant.before (has_not_failed _ _ c.in_ok-write_string.ensures.broken) (rw value_site at c.in_err-write_tree.ensures.writes) (λ refused. c.loop-key.invariant.rest ∙ maps.value_refused g.S.ShapeSerializer.after (site_of c.args.schema.now) _ root _ _ (g.S.ShapeSerializer.state c.loop-key.sink) _ _ next named refused));
     }
 
 pub write_map-returns-in_err-write_string : goal.write_map-returns-in_err-write_string
 write_map-returns-in_err-write_string g t c =
     let told = c.in_err-write_string.ensures in
-    let p = err_from_is_err_and c.from_residual-in_err-write_string.result c.from_residual-in_err-write_string.ensures.1 in
     let next = maps.next_entry _ _ _ _ _ c.in-Some-next_entry.ensures.shows refl in
     let key_site = maps.key_site_is (site_of c.args.schema.now) (site_of c.in-Some.key_schema) c.in-Some.ensures in
     record {
-      writes = rw (p.1, p.2)
+      writes = answered _ _ c.from_residual-in_err-write_string.ensures.1
           (later_fails _ _ _ _ _ _ _ c.loop-key.invariant.before c.loop-key.invariant.failed (called _ _ _ _ _ told.failed told.broken tt (rw key_site at told.refused))
           (λ refused. c.loop-key.invariant.rest ∙ maps.key_refused g.S.ShapeSerializer.after (site_of c.args.schema.now) _ _ _ _ (g.S.ShapeSerializer.state c.loop-key.sink) _ next refused));
     }
