@@ -1,0 +1,5 @@
+pub mod Containers
+mod SetFields
+mod ScalarReads
+mod OneOf
+mod Made

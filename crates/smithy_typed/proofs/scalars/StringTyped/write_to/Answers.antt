@@ -1,0 +1,10 @@
+use Rattle.std.proofs.Common.{string_bytes}
+use Rattle.smithy_declarations.specs.Value.{text}
+use Rattle.smithy_shapes.specs.Site.{site_of}
+use Rattle.smithy_schema.specs.Writing.{scalar_of}
+use Rattle.smithy_typed.proofs.ScalarReads.{event_written}
+use Rattle.smithy_typed.proofs.scalars.StringTyped.write_to.Goals as goal
+
+pub returns : goal.returns
+returns g c =
+    record { writes = event_written g.S.ShapeSerializer.after (scalar_of (site_of c.args.schema.now) (text (string_bytes c.args.self.now))) _ _ _ _ c.write_string.result c.requires.sound (rw c.as_str.ensures.value at c.write_string.ensures) }
