@@ -1,10 +1,14 @@
 //! A caller of the libraries, as README.md and docs/LIBRARIES.md show it.
 use smithy_cbor_codec::CborCodec;
 use smithy_json_codec::JsonCodec;
-use smithy_schema::{Accept, FinishSerializer, Shapes, TableText};
+use smithy_schema::{FinishSerializer, Shapes, TableText};
 use smithy_transcode::{Value, read_value};
+use smithy_typed::Typed;
 use std::alloc::Global;
-use sts_client::{AssumeRoleRequest, Credentials, read_credentials, read_request, write_request};
+use sts_client::{
+    AssumeRoleRequest, Credentials, read_assume_role_request, read_credentials,
+    write_assume_role_request,
+};
 
 // The member `a` of a body, or `None` where it spells no structure; `Some(None)` where there is no such member.
 fn member_a(alloc: Global, body: &[u8]) -> Option<Option<i128>> {
@@ -33,9 +37,9 @@ fn request_in_cbor(alloc: Global, shapes: &Shapes, body: &[u8]) -> Option<Vec<u8
     let schema = AssumeRoleRequest::accept(shapes, "AssumeRoleRequest")?;
     let codec = JsonCodec::strict(false);
     let mut reader = codec.create_deserializer(alloc, body);
-    let request = read_request(&schema, &mut reader).ok()?;
+    let request = read_assume_role_request(&schema, &mut reader).ok()?;
     let mut writer = CborCodec::strict().create_serializer(alloc);
-    write_request(&mut writer, &schema, &request).ok()?;
+    write_assume_role_request(&mut writer, &schema, &request).ok()?;
     writer.finish().ok()
 }
 

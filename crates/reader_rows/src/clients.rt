@@ -11,15 +11,16 @@ use smithy_rows::{Field, Row};
 use smithy_schema::{
     Accept, FinishSerializer, Schema, SerdeError, ShapeDeserializer, ShapeSerializer, Shapes,
 };
+use smithy_typed::Typed;
 use std::alloc::{AllocError, Global};
 use sts_client::{
-    AssumeRoleRequest, AssumeRoleResponse, read_request, read_response, write_request,
-    write_response,
+    AssumeRoleRequest, AssumeRoleResponse, read_assume_role_request, read_assume_role_response,
+    write_assume_role_request, write_assume_role_response,
 };
 
 // A value of a client's type.
 #[derive(Drop)]
-enum Typed {
+enum Kept {
     Request(AssumeRoleRequest),
     Response(AssumeRoleResponse),
     PutItem(PutItemInput),
@@ -30,19 +31,19 @@ fn read<R: ShapeDeserializer>(
     shapes: &Shapes,
     name: &str,
     source: &mut R,
-) -> Option<Result<Typed, SerdeError>> {
+) -> Option<Result<Kept, SerdeError>> {
     match name {
         "AssumeRoleRequest" => {
             let schema = AssumeRoleRequest::accept(shapes, name)?;
-            Some(read_request(&schema, source).map(Typed::Request))
+            Some(read_assume_role_request(&schema, source).map(Kept::Request))
         }
         "AssumeRoleResponse" => {
             let schema = AssumeRoleResponse::accept(shapes, name)?;
-            Some(read_response(&schema, source).map(Typed::Response))
+            Some(read_assume_role_response(&schema, source).map(Kept::Response))
         }
         "PutItemInput" => {
             let schema = PutItemInput::accept(shapes, name)?;
-            Some(read_put_item(&schema, source).map(Typed::PutItem))
+            Some(read_put_item(&schema, source).map(Kept::PutItem))
         }
         _ => None,
     }
@@ -51,12 +52,12 @@ fn read<R: ShapeDeserializer>(
 fn write<S: ShapeSerializer>(
     sink: &mut S,
     schema: &Schema<'_>,
-    value: &Typed,
+    value: &Kept,
 ) -> Result<(), SerdeError> {
     match value {
-        Typed::Request(request) => write_request(sink, schema, request),
-        Typed::Response(response) => write_response(sink, schema, response),
-        Typed::PutItem(input) => write_put_item(sink, schema, input),
+        Kept::Request(request) => write_assume_role_request(sink, schema, request),
+        Kept::Response(response) => write_assume_role_response(sink, schema, response),
+        Kept::PutItem(input) => write_put_item(sink, schema, input),
     }
 }
 
@@ -67,7 +68,7 @@ fn push_body<S: FinishSerializer + Drop>(
     wire: &str,
     sink: S,
     schema: &Schema<'_>,
-    value: &Typed,
+    value: &Kept,
 ) -> Result<(), AllocError> {
     let mut sink = sink;
     if let Err(error) = write(&mut sink, schema, value) {
@@ -79,7 +80,7 @@ fn push_body<S: FinishSerializer + Drop>(
     }
 }
 
-fn written(alloc: Global, schema: &Schema<'_>, value: &Typed) -> Result<Vec<Field>, AllocError> {
+fn written(alloc: Global, schema: &Schema<'_>, value: &Kept) -> Result<Vec<Field>, AllocError> {
     let mut answers = Vec::new(alloc);
     let json = JsonCodec::strict(false).create_serializer(alloc);
     push_body(alloc, &mut answers, "json", json, schema, value)?;

@@ -1,1 +1,5 @@
-pub mod Shapes
+pub mod OfAssumeRoleRequest
+pub mod OfAssumeRoleResponse
+pub mod OfAssumedRoleUser
+pub mod OfCredentials
+pub mod OfTag

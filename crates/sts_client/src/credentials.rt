@@ -1,87 +1,69 @@
-//! The credentials that AssumeRole answers.
+//! The structure `Credentials`.
 ghost use Rattle.std.specs.Prelude.{◌≡◌, false, OnOk};
-ghost use Rattle.smithy_schema.specs.Consuming.{IsTaken};
 ghost use Rattle.smithy_shapes.specs.Site.{site_of};
-ghost use Rattle.smithy_schema.specs.Typed.{ReadsDueAs};
-ghost use Rattle.smithy_schema.specs.Fields.{structure_with};
-ghost use Rattle.sts_client.specs.Shapes.{IsCredentials, credentials_fields};
+ghost use Rattle.smithy_schema.specs.Consuming.{IsTaken};
+ghost use Rattle.smithy_schema.specs.Typed.{ReadsDueAs, WritesWhole};
+ghost use Rattle.smithy_schema.specs.Writing.{events};
+ghost use Rattle.sts_client.specs.OfCredentials.{IsCredentials, credentials_value};
 
-use smithy_schema::{
-    Accept, Scalar, Schema, SerdeError, ShapeDeserializer, ShapeSerializer, ShapeType,
-    StructConsumer, Target, WriteFields, WriteMember, read_field, write_field, write_structure,
+use smithy_schema::{Schema, SerdeError, ShapeDeserializer, ShapeSerializer, WriteFields};
+use smithy_typed::{
+    Field, FieldRef, FromFields, NoField, Typed, WriteFieldList, is_structure_of, read_root,
+    read_structure, write_root, write_structure,
 };
 use smithy_types::DateTime;
 
 /// Keys that stand for a role for a while.
 #[derive(Drop)]
 pub struct Credentials {
-    /// The member `AccessKeyId`.
+    /// `AccessKeyId`: The identifier of the key.
     pub access_key_id: Option<String>,
-    /// The member `SecretAccessKey`.
+    /// `SecretAccessKey`: The key that signs requests.
     pub secret_access_key: Option<String>,
-    /// The member `SessionToken`.
+    /// `SessionToken`: The token that goes with each request.
     pub session_token: Option<String>,
-    /// The member `Expiration`.
+    /// `Expiration`: When the keys stop to hold.
     pub expiration: Option<DateTime>,
 }
 
-impl StructConsumer for Credentials {
-    ghost use Rattle.std.specs.Prelude.{false};
-    ghost use Rattle.smithy_schema.specs.Fields.{TakesField};
-    ghost use Rattle.sts_client.specs.Shapes.{IsCredentials, credentials_fields};
+// Its fields, one inside another.
+type Fields = Field<String, Field<String, Field<String, Field<DateTime, NoField>>>>;
 
-    ghost call = { TakesField credentials_fields };
+impl FromFields<Fields> for Credentials {
+    ghost use Rattle.sts_client.specs.OfCredentials.{credentials_names, credentials_fields};
 
-    ghost can_take = { λ _ outer. IsCredentials outer };
+    ghost names = { credentials_names };
 
-    ghost takes_nulls = { false };
+    ghost made = { credentials_fields };
 
-    fn takes_nulls(&self) -> bool {
-        false
-    }
-
-    fn member<D: ShapeDeserializer>(
-        &mut self,
-        member: Option<&Schema<'_>>,
-        source: &mut D,
-    ) -> Result<(), SerdeError> {
-        let Some(schema) = member else {
-            return Ok(());
-        };
-        let position = schema.member_index();
-        if position == Some(0) {
-            return read_field(source, schema, &mut self.access_key_id);
+    fn from_fields(list: Fields) -> Credentials {
+        let Field {
+            value: access_key_id,
+            rest,
+        } = list;
+        let Field {
+            value: secret_access_key,
+            rest,
+        } = rest;
+        let Field {
+            value: session_token,
+            rest,
+        } = rest;
+        let Field {
+            value: expiration,
+            rest: _,
+        } = rest;
+        Credentials {
+            access_key_id,
+            secret_access_key,
+            session_token,
+            expiration,
         }
-        if position == Some(1) {
-            return read_field(source, schema, &mut self.secret_access_key);
-        }
-        if position == Some(2) {
-            return read_field(source, schema, &mut self.session_token);
-        }
-        read_field(source, schema, &mut self.expiration)
-    }
-}
-
-impl Accept for Credentials {
-    ghost use Rattle.sts_client.specs.Shapes.{IsCredentials};
-
-    ghost place = { IsCredentials };
-
-    fn is_at(schema: &Schema<'_>) -> bool {
-        schema.declares(
-            ShapeType::Structure,
-            &[
-                ("AccessKeyId", Target::Simple(Scalar::String)),
-                ("SecretAccessKey", Target::Simple(Scalar::String)),
-                ("SessionToken", Target::Simple(Scalar::String)),
-                ("Expiration", Target::Simple(Scalar::Timestamp)),
-            ],
-        )
     }
 }
 
 impl WriteFields for Credentials {
-    ghost use Rattle.sts_client.specs.Shapes.{credentials_fields};
+    ghost use Rattle.sts_client.specs.OfCredentials.{credentials_fields};
 
     ghost fields = { credentials_fields };
 
@@ -90,45 +72,81 @@ impl WriteFields for Credentials {
         sink: &mut S,
         shape: &Schema<'_>,
     ) -> Result<(), SerdeError> {
-        write_field(sink, shape, 0, &self.access_key_id)?;
-        write_field(sink, shape, 1, &self.secret_access_key)?;
-        write_field(sink, shape, 2, &self.session_token)?;
-        write_field(sink, shape, 3, &self.expiration)
+        let rest = FieldRef {
+            value: &self.expiration,
+            rest: NoField,
+        };
+        let rest = FieldRef {
+            value: &self.session_token,
+            rest,
+        };
+        let rest = FieldRef {
+            value: &self.secret_access_key,
+            rest,
+        };
+        let rest = FieldRef {
+            value: &self.access_key_id,
+            rest,
+        };
+        rest.write_from(sink, shape, 0)
     }
 }
 
-impl WriteMember for Credentials {
-    ghost use Rattle.sts_client.specs.Shapes.{credentials_fields};
+impl Typed for Credentials {
+    ghost use Rattle.sts_client.specs.OfCredentials.{IsCredentials, credentials_value};
 
-    ghost value = { λ keys. structure_with (credentials_fields keys) };
+    ghost value = { credentials_value };
 
-    fn write_member<S: ShapeSerializer>(
+    ghost place = { IsCredentials };
+
+    fn is_at(schema: &Schema<'_>) -> bool {
+        is_structure_of::<Fields>(
+            schema,
+            &[
+                "AccessKeyId",
+                "SecretAccessKey",
+                "SessionToken",
+                "Expiration",
+            ],
+        )
+    }
+
+    fn read_from<D: ShapeDeserializer>(
+        source: &mut D,
+        schema: &Schema<'_>,
+    ) -> Result<Credentials, SerdeError> {
+        read_structure::<Credentials, Fields, D>(source, schema)
+    }
+
+    fn write_to<S: ShapeSerializer>(
         &self,
         sink: &mut S,
-        member: &Schema<'_>,
+        schema: &Schema<'_>,
     ) -> Result<(), SerdeError> {
-        write_structure(sink, member, self)
+        write_structure(sink, schema, self)
     }
 }
 
-/// Reads the credentials that are due.
+/// Reads `Credentials` as the root of a body. Nulls of members are dropped.
 pub fn read_credentials<D: ShapeDeserializer>(
     schema: &Schema<'_>,
     source: &mut D,
 ) -> Result<Credentials, SerdeError>
     requires place { IsCredentials (site_of schema.now) }
     ensures same { D.settings source.new ≡ D.settings source.old }
-
-    // What stood there, nulls of members dropped, is the structure of these fields, and a fault comes only where no such structure stands.
-    ensures reads { ReadsDueAs (D.reading (D.with_nulls false (D.settings source.old))).wire (D.state source.old) (D.state source.new) (site_of schema.now) (λ keys. structure_with (credentials_fields keys)) result }
+    ensures reads { ReadsDueAs (D.reading (D.with_nulls false (D.settings source.old))).wire (D.state source.old) (D.state source.new) (site_of schema.now) credentials_value result }
     ensures takes { OnOk result (IsTaken (D.state source.old) (D.state source.new)) }
 {
-    let mut keys = Credentials {
-        access_key_id: None,
-        secret_access_key: None,
-        session_token: None,
-        expiration: None,
-    };
-    source.read_struct(schema, &mut keys)?;
-    Ok(keys)
+    read_root::<Credentials, Fields, D>(source, schema)
+}
+
+/// Writes `Credentials` as the root of a body.
+pub fn write_credentials<S: ShapeSerializer>(
+    sink: &mut S,
+    schema: &Schema<'_>,
+    value: &Credentials,
+) -> Result<(), SerdeError>
+    ensures { WritesWhole S.after S.open_in (events (site_of schema.now) (credentials_value value.now)) (S.state sink.old) (S.failed sink.old) (S.state sink.new) (S.failed sink.new) result }
+{
+    write_root(sink, schema, value)
 }

@@ -1,12 +1,18 @@
-//! A client's own types for AssumeRole of AWS STS, which read and write themselves on any wire.
+//! Types of AWSSecurityTokenServiceV20110615 for AssumeRole, Credentials.
 #![tactic(auto)]
 
+mod assume_role_request;
+mod assume_role_response;
+mod assumed_role_user;
 mod credentials;
-mod request;
-mod response;
-mod tags;
+mod tag;
 
-pub use credentials::{Credentials, read_credentials};
-pub use request::{AssumeRoleRequest, read_request, write_request};
-pub use response::{AssumeRoleResponse, AssumedRoleUser, read_response, write_response};
-pub use tags::{Tag, are_tags, read_tags};
+pub use assume_role_request::{
+    AssumeRoleRequest, read_assume_role_request, write_assume_role_request,
+};
+pub use assume_role_response::{
+    AssumeRoleResponse, read_assume_role_response, write_assume_role_response,
+};
+pub use assumed_role_user::AssumedRoleUser;
+pub use credentials::{Credentials, read_credentials, write_credentials};
+pub use tag::Tag;
