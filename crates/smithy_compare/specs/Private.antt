@@ -3,3 +3,4 @@ pub mod Nodes
 pub mod Pairs
 pub mod Refusals
 pub mod Standing
+pub mod Taking

@@ -1,9 +1,9 @@
 //! The parts of a value or a document, one after another.
-ghost use Rattle.std.specs.Prelude.{◌≡◌, ◌<◌, ◌^◌, suc, MatchOption};
+ghost use Rattle.std.specs.Prelude.{◌≡◌, ◌<◌, ◌^◌, suc, drop};
 ghost use Rattle.smithy_compare.specs.FirstPath.{step_cmp};
-ghost use Rattle.smithy_compare.specs.Tree.{no_parts, part};
-ghost use Rattle.smithy_compare.specs.Private.Nodes.{node_tree, step_at, parts_of};
-ghost use Rattle.smithy_compare.specs.Private.Standing.{NodeStands, PartsStand};
+ghost use Rattle.smithy_compare.specs.Private.Nodes.{step_at, elements_from, numbers_from, entries_in, members_in, items_from, parts_of};
+ghost use Rattle.smithy_compare.specs.Private.Standing.{ChildrenStand, PartsStand};
+ghost use Rattle.smithy_compare.specs.Private.Taking.{TakesPart};
 
 use crate::node::Node;
 use smithy_tree::{Pool, Slot};
@@ -77,43 +77,80 @@ fn step_past<'v>(index: &mut usize) -> Label<'v>
     Label::Element(at)
 }
 
+// Takes the next element of a list in a pool.
+#[inline(always)]
+fn next_element<'v>(
+    pool: &'v Pool<'v>,
+    index: &mut usize,
+    elements: &'v [Slot],
+) -> Option<(Label<'v>, Node<'v>)>
+    requires stands { ChildrenStand pool.now (drop index.old elements.now) }
+    ensures { TakesPart result (elements_from pool.now index.old elements.now) (elements_from pool.now index.new elements.now) (ChildrenStand pool.now (drop index.new elements.now)) }
+{
+    let element = elements.get(*index)?;
+    Some((step_past(index), Node::Value(pool, element)))
+}
+
+// Takes the next number of a list.
+#[inline(always)]
+fn next_number<'v>(index: &mut usize, numbers: &'v [i64]) -> Option<(Label<'v>, Node<'v>)>
+    ensures { TakesPart result (numbers_from index.old numbers.now) (numbers_from index.new numbers.now) (Unit {0}) }
+{
+    let number = numbers.get(*index)?;
+    Some((step_past(index), Node::Number(*number)))
+}
+
+// Takes the next entry of a map in a pool.
+#[inline(always)]
+fn next_entry<'v>(pool: &'v Pool<'v>, entries: &mut &'v [Slot]) -> Option<(Label<'v>, Node<'v>)>
+    requires stands { ChildrenStand pool.now entries.old.now }
+    ensures { TakesPart result (entries_in pool.now entries.old.now) (entries_in pool.now entries.new.now) (ChildrenStand pool.now entries.new.now) }
+{
+    let (entry, more) = entries.split_first()?;
+    *entries = more;
+    let key = pool.key(entry.first, entry.second);
+    Some((Label::Key(key), Node::Value(pool, entry)))
+}
+
+// Takes the next member of a structure in a pool.
+#[inline(always)]
+fn next_member<'v>(pool: &'v Pool<'v>, members: &mut &'v [Slot]) -> Option<(Label<'v>, Node<'v>)>
+    requires stands { ChildrenStand pool.now members.old.now }
+    ensures { TakesPart result (members_in pool.now members.old.now) (members_in pool.now members.new.now) (ChildrenStand pool.now members.new.now) }
+{
+    let (member, more) = members.split_first()?;
+    *members = more;
+    Some((Label::Member(member.first), Node::Value(pool, member)))
+}
+
+// Takes the next element of an array.
+#[inline(always)]
+fn next_item<'v>(index: &mut usize, items: &'v [Document]) -> Option<(Label<'v>, Node<'v>)>
+    ensures { TakesPart result (items_from index.old items.now) (items_from index.new items.now) (Unit {0}) }
+{
+    let item = items.get(*index)?;
+    Some((step_past(index), Node::Document(item)))
+}
+
 impl<'v> Parts<'v> {
-    // The next part, behind the step to it.
+    // The next part, after the step to it.
     #[inline(always)]
     pub(crate) fn next_part(&mut self) -> Option<(Label<'v>, Node<'v>)>
         requires stands { PartsStand self.old }
-        ensures { MatchOption result (parts_of self.old ≡ no_parts) (λ e. (parts_of self.old ≡ part (step_at e.0) (node_tree e.1) (parts_of self.new)) × NodeStands e.1 × PartsStand self.new) }
+        ensures { TakesPart result (parts_of self.old) (parts_of self.new) (PartsStand self.new) }
     {
         match self {
             Parts::Nothing => None,
-            Parts::Elements(pool, index, elements) => {
-                let element = elements.get(*index)?;
-                Some((step_past(index), Node::Value(*pool, element)))
-            }
-            Parts::Numbers(index, numbers) => {
-                let number = numbers.get(*index)?;
-                Some((step_past(index), Node::Number(*number)))
-            }
-            Parts::Entries(pool, entries) => {
-                let (entry, more) = entries.split_first()?;
-                *entries = more;
-                let key = pool.key(entry.first, entry.second);
-                Some((Label::Key(key), Node::Value(*pool, entry)))
-            }
-            Parts::Members(pool, members) => {
-                let (member, more) = members.split_first()?;
-                *members = more;
-                Some((Label::Member(member.first), Node::Value(*pool, member)))
-            }
+            Parts::Elements(pool, index, elements) => next_element(*pool, index, *elements),
+            Parts::Numbers(index, numbers) => next_number(index, *numbers),
+            Parts::Entries(pool, entries) => next_entry(*pool, entries),
+            Parts::Members(pool, members) => next_member(*pool, members),
             Parts::Only(pool, value) => {
                 let only = (Label::Member(value.first), Node::Value(*pool, *value));
                 *self = Parts::Nothing;
                 Some(only)
             }
-            Parts::Items(index, items) => {
-                let item = items.get(*index)?;
-                Some((step_past(index), Node::Document(item)))
-            }
+            Parts::Items(index, items) => next_item(index, *items),
             Parts::Properties(properties) => {
                 let (name, document) = properties.next()?;
                 Some((Label::Key(name.as_str()), Node::Document(document)))

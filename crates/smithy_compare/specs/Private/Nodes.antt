@@ -1,6 +1,7 @@
 -- What the walk over two trees looks at, seen as the trees and parts that it stands for.
-use Rattle.std.specs.Prelude.{List, drop}
+use Rattle.std.specs.Prelude.{ℕ, ℤ, List, drop}
 use Rattle.smithy_types.specs.Document.{whole_document, map_elements, map_properties}
+use Rattle.smithy_types.specs.declared.document.Document.{Document}
 use Rattle.smithy_types.specs.DocumentView.{document_view, elements_view, properties_view}
 use Rattle.smithy_types.specs.Number.{whole_number}
 use Rattle.smithy_declarations.specs.Value as values
@@ -52,12 +53,28 @@ step_at (labels.Key k) = key k.now
 abbrev pub items_in : Pool → List Slot → List Item
 items_in p xs = values_over (store p) (values_in p) xs
 
+-- the parts that are left of each kind of container
+abbrev pub elements_from : Pool → ℕ → List Slot → Parts
+elements_from p i xs = element_parts i (elements_of (items_in p (drop i xs)))
+
+abbrev pub numbers_from : ℕ → List ℤ → Parts
+numbers_from i ns = element_parts i (values.values_of (whole_values (drop i ns)))
+
+abbrev pub entries_in : Pool → List Slot → Parts
+entries_in p xs = entry_parts (entries_of (items_in p xs))
+
+abbrev pub members_in : Pool → List Slot → Parts
+members_in p xs = member_parts (members_of (items_in p xs))
+
+abbrev pub items_from : ℕ → List Document → Parts
+items_from i ds = item_parts i (map_elements whole_number (elements_view (drop i ds)))
+
 abbrev pub parts_of : left.Parts → Parts
 parts_of all_parts.Nothing = no_parts
-parts_of (all_parts.Elements p i xs) = element_parts i (elements_of (items_in p.now (drop i xs.now)))
-parts_of (all_parts.Numbers i ns) = element_parts i (values.values_of (whole_values (drop i ns.now)))
-parts_of (all_parts.Entries p xs) = entry_parts (entries_of (items_in p.now xs.now))
-parts_of (all_parts.Members p xs) = member_parts (members_of (items_in p.now xs.now))
+parts_of (all_parts.Elements p i xs) = elements_from p.now i xs.now
+parts_of (all_parts.Numbers i ns) = numbers_from i ns.now
+parts_of (all_parts.Entries p xs) = entries_in p.now xs.now
+parts_of (all_parts.Members p xs) = members_in p.now xs.now
 parts_of (all_parts.Only p x) = part (member x.now.first) (tree_of (view p.now x.now.node)) no_parts
-parts_of (all_parts.Items i ds) = item_parts i (map_elements whole_number (elements_view (drop i ds.now)))
+parts_of (all_parts.Items i ds) = items_from i ds.now
 parts_of (all_parts.Properties ps) = property_parts (map_properties whole_number (properties_view ps))
