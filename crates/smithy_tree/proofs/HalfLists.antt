@@ -4,7 +4,7 @@ use Rattle.std.proofs.lemmas.List.{append-nil, map-append, drop-append-le, drop_
 use Rattle.smithy_declarations.specs.Value.{Value, Values, value, values_of, list}
 use Rattle.smithy_tree.specs.Items.{Item, shown_of, whole_value, whole_values, elements_of}
 use Rattle.smithy_tree.specs.Nodes.{Store, values_over, values_after, number_slot, AreNodes}
-use Rattle.smithy_tree.specs.Seen.{store, values, waiting, IsSound, Grows, Waits, Closes, ElementsStand, numbers_in, elements_in, PutsElement, ClosesElements}
+use Rattle.smithy_tree.specs.Seen.{store, values, waiting, IsSound, Grows, Waits, Closes, ElementsStand, numbers_in, elements_in, PutsElement, PutsElements, ClosesElements}
 use Rattle.smithy_tree.specs.declared.elements.Elements.{Elements}
 use Rattle.smithy_tree.specs.declared.node.Node.TheVariants as nodes
 use Rattle.smithy_tree.specs.declared.node.Slot.{Slot}
@@ -98,46 +98,77 @@ module _ (p q : Pool) (ns : List ℤ) (sound : IsSound p) (is : store q ≡ more
 run_of : (from to : ℕ) (ns : List ℤ) → length ns ≤ to → take (to - from) (drop from ns) ≡ drop from ns
 run_of from to ns ends = take_all (to - from) (drop from ns) (omega (arith, ends, length-drop from ns))
 
-run_more : (from to after : ℕ) (ns : List ℤ) (n : ℤ) → from ≤ to → to ≡ length ns → after ≡ to + 1 → take (after - from) (drop from (ns ++ n ∷ [])) ≡ take (to - from) (drop from ns) ++ n ∷ []
-run_more from to after ns n ordered ends next =
-    run_of from after (ns ++ n ∷ []) (omega (arith, ends, next, length-append ns (n ∷ [])))
-    ∙ (drop-append-le from ns (n ∷ []) (omega (arith, ordered, ends))
-    ∙ ap (λ (ms : List ℤ). ms ++ n ∷ []) (sym (run_of from to ns (omega (arith, ends)))))
+run_more : (from to after : ℕ) (ns ms : List ℤ) → from ≤ to → to ≡ length ns → after ≡ to + length ms → take (after - from) (drop from (ns ++ ms)) ≡ take (to - from) (drop from ns) ++ ms
+run_more from to after ns ms ordered ends next =
+    run_of from after (ns ++ ms) (omega (arith, ends, next, length-append ns ms))
+    ∙ (drop-append-le from ns ms (omega (arith, ordered, ends))
+    ∙ ap (λ (xs : List ℤ). xs ++ ms) (sym (run_of from to ns (omega (arith, ends)))))
 
--- it is a number behind the others
-pub counts_behind : (p q : Pool) (e f : Elements) (n : ℤ) → IsSound p → ElementsStand p e → store q ≡ more (store p) [] [] (n ∷ []) → q.nodes.items ≡ p.nodes.items → q.waiting.items ≡ p.waiting.items
-    → length (waiting p) ≡ e.waiting_from → length p.numbers.items ≡ e.numbers_to → f.numbers_from ≡ e.numbers_from → f.numbers_to ≡ e.numbers_to + 1 → f.waiting_from ≡ e.waiting_from → PutsElement p q e f (whole_value n)
-counts_behind p q e f n sound h is nodes_are waiting_are none_waits ends from to begins =
+-- they are numbers behind the others
+pub numbers_behind : (p q : Pool) (e f : Elements) (ms : List ℤ) → IsSound p → ElementsStand p e → store q ≡ more (store p) [] [] ms → q.nodes.items ≡ p.nodes.items → q.waiting.items ≡ p.waiting.items
+    → length (waiting p) ≡ e.waiting_from → length p.numbers.items ≡ e.numbers_to → f.numbers_from ≡ e.numbers_from → f.numbers_to ≡ e.numbers_to + length ms → f.waiting_from ≡ e.waiting_from → PutsElements p q e f (whole_values ms)
+numbers_behind p q e f ms sound h is nodes_are waiting_are none_waits ends from to begins =
     let ns = p.numbers.items in
-    let still = same_waiting p q (n ∷ []) sound is nodes_are waiting_are in
-    let grows = numbers_grow p q (n ∷ []) sound is nodes_are waiting_are in
-    let more_numbers : q.numbers.items ≡ ns ++ n ∷ [] = ap (λ (s : Store). s.numbers) is in
-    let v = whole_value n in
+    let still = same_waiting p q ms sound is nodes_are waiting_are in
+    let grows = numbers_grow p q ms sound is nodes_are waiting_are in
+    let more_numbers : q.numbers.items ≡ ns ++ ms = ap (λ (s : Store). s.numbers) is in
+    let vs = whole_values ms in
     let before = whole_values (numbers_in p e) in
     let nothing_behind : drop e.waiting_from (waiting p) ≡ [] = drop_all e.waiting_from (waiting p) (omega (arith, none_waits)) in
-    let counted : numbers_in q f ≡ numbers_in p e ++ n ∷ [] =
-    ap (λ (ms : List ℤ). take (f.numbers_to - f.numbers_from) (drop f.numbers_from ms)) more_numbers
-    ∙ (ap (λ (k : ℕ). take (f.numbers_to - k) (drop k (ns ++ n ∷ []))) from
-    ∙ run_more e.numbers_from e.numbers_to f.numbers_to ns n h.ordered (sym ends) to) in
+    let counted : numbers_in q f ≡ numbers_in p e ++ ms =
+    ap (λ (xs : List ℤ). take (f.numbers_to - f.numbers_from) (drop f.numbers_from xs)) more_numbers
+    ∙ (ap (λ (k : ℕ). take (f.numbers_to - k) (drop k (ns ++ ms))) from
+    ∙ run_more e.numbers_from e.numbers_to f.numbers_to ns ms h.ordered (sym ends) to) in
     let behind : drop f.waiting_from (waiting q) ≡ [] =
     ap (λ (ws : List Item). drop f.waiting_from ws) still ∙ (ap (λ (k : ℕ). drop k (waiting p)) begins ∙ nothing_behind) in
     record {
       grows = grows;
       half = record {
         ordered = omega (arith, h.ordered, from, to);
-        numbers = rw more_numbers (omega (arith, ends, to, length-append ns (n ∷ [])));
+        numbers = rw more_numbers (omega (arith, ends, to, length-append ns ms));
         waiting = rw still (omega (arith, begins, h.waiting));
       };
       begins = begins;
       added = [];
       waiting = still ∙ sym (append-nil (waiting p));
-      elements = ap (λ (ms : List ℤ). whole_values ms ++ shown_of (drop f.waiting_from (waiting q))) counted
-          ∙ (ap (λ (ws : List Item). whole_values (numbers_in p e ++ n ∷ []) ++ shown_of ws) behind
-          ∙ (append-nil (whole_values (numbers_in p e ++ n ∷ []))
-          ∙ (map-append whole_value (numbers_in p e) (n ∷ [])
-          ∙ (ap (λ (vs : List Value). vs ++ v ∷ []) (sym (append-nil before))
-          ∙ ap (λ (ws : List Item). (before ++ shown_of ws) ++ v ∷ []) (sym nothing_behind)))));
+      elements = ap (λ (xs : List ℤ). whole_values xs ++ shown_of (drop f.waiting_from (waiting q))) counted
+          ∙ (ap (λ (ws : List Item). whole_values (numbers_in p e ++ ms) ++ shown_of ws) behind
+          ∙ (append-nil (whole_values (numbers_in p e ++ ms))
+          ∙ (map-append whole_value (numbers_in p e) ms
+          ∙ (ap (λ (us : List Value). us ++ vs) (sym (append-nil before))
+          ∙ ap (λ (ws : List Item). (before ++ shown_of ws) ++ vs) (sym nothing_behind)))));
     }
+
+-- it is a number behind the others
+pub counts_behind : (p q : Pool) (e f : Elements) (n : ℤ) → IsSound p → ElementsStand p e → store q ≡ more (store p) [] [] (n ∷ []) → q.nodes.items ≡ p.nodes.items → q.waiting.items ≡ p.waiting.items
+    → length (waiting p) ≡ e.waiting_from → length p.numbers.items ≡ e.numbers_to → f.numbers_from ≡ e.numbers_from → f.numbers_to ≡ e.numbers_to + 1 → f.waiting_from ≡ e.waiting_from → PutsElement p q e f (whole_value n)
+counts_behind p q e f n sound h is nodes_are waiting_are none_waits ends from to begins =
+    let one = numbers_behind p q e f (n ∷ []) sound h is nodes_are waiting_are none_waits ends from to begins in
+    record { grows = one.grows; half = one.half; begins = one.begins; added = one.added; waiting = one.waiting; elements = one.elements }
+
+-- ---- several more elements
+
+-- none has come yet
+pub none_behind : (p : Pool) (e : Elements) → IsSound p → ElementsStand p e → PutsElements p p e e []
+none_behind p e sound h = record {
+  grows = grows_self p sound;
+  half = h;
+  begins = refl;
+  added = [];
+  waiting = sym (append-nil (waiting p));
+  elements = sym (append-nil (elements_in p e));
+}
+
+-- one more has come behind those
+pub one_behind : (p q r : Pool) (e f g : Elements) (vs : List Value) (v : Value) → PutsElements p q e f vs → PutsElement q r f g v → PutsElements p r e g (vs ++ v ∷ [])
+one_behind p q r e f g vs v h k = record {
+  grows = grows_twice p q r h.grows k.grows;
+  half = k.half;
+  begins = k.begins ∙ h.begins;
+  added = h.added ++ k.added;
+  waiting = k.waiting ∙ (ap (λ (ws : List Item). ws ++ k.added) h.waiting ∙ append_assoc (waiting p) h.added k.added);
+  elements = k.elements ∙ (ap (λ (us : List Value). us ++ v ∷ []) h.elements ∙ append_assoc (elements_in p e) vs (v ∷ []));
+}
 
 -- ---- a list that is whole
 

@@ -120,6 +120,15 @@ pub record PutsElement (p q : Pool) (e f : Elements) (v : Value) : Type 0 where
   pub waiting : waiting q ≡ waiting p ++ added
   pub elements : elements_in q f ≡ elements_in p e ++ v ∷ []
 
+-- these values have come behind the elements
+pub record PutsElements (p q : Pool) (e f : Elements) (vs : List Value) : Type 0 where
+  pub grows : Grows p q
+  pub half : ElementsStand q f
+  pub begins : f.waiting_from ≡ e.waiting_from
+  pub added : List Item
+  pub waiting : waiting q ≡ waiting p ++ added
+  pub elements : elements_in q f ≡ elements_in p e ++ vs
+
 -- the elements have become those of a list
 pub record ClosesElements (p q : Pool) (e : Elements) (n : Node) : Type 0 where
   pub grows : Grows p q

@@ -19,8 +19,9 @@ pub struct Elements {
 
 impl<'a> Pool<'a> {
     ghost use Rattle.std.specs.Prelude.{◌≡◌, ◌≤◌, ◌+◌, ◌-◌, [], length, OnOk, OnErr, IfOk, take, drop};
+    ghost use Rattle.smithy_tree.specs.Items.{whole_values};
     ghost use Rattle.smithy_tree.specs.Nodes.{LeavesPlaces};
-    ghost use Rattle.smithy_tree.specs.Seen.{store, view, waiting, HoldsSlot, IsSound, elements_in, ElementsStand, AreNumbersAlone, PutsElement, ClosesElements};
+    ghost use Rattle.smithy_tree.specs.Seen.{store, view, waiting, HoldsSlot, IsSound, elements_in, ElementsStand, AreNumbersAlone, PutsElement, PutsElements, ClosesElements};
 
     /// The elements of a list that has none yet.
     #[inline(always)]
@@ -55,6 +56,40 @@ impl<'a> Pool<'a> {
         }
         self.numbers.push(number)?;
         elements.numbers_to = self.numbers.len();
+        Ok(())
+    }
+
+    /// Puts whole numbers behind the elements of a list, in their order.
+    #[inline(always)]
+    pub fn push_numbers(
+        &mut self,
+        elements: &mut Elements,
+        numbers: &[i64],
+    ) -> Result<(), AllocError>
+        requires sound { IsSound self.old }
+        requires half { ElementsStand self.old elements.old }
+        ensures ok { OnOk result (PutsElements self.old self.new elements.old elements.new (whole_values numbers.now)) }
+    {
+        if self.waiting.len() == elements.waiting_from
+            && self.numbers.len() == elements.numbers_to
+        {
+            self.numbers.extend_from_slice(numbers)?;
+            elements.numbers_to = self.numbers.len();
+            return Ok(());
+        }
+        self.wait_all(elements, numbers)
+    }
+
+    // Lets whole numbers wait behind the elements of a list, in their order.
+    #[inline(never)]
+    fn wait_all(&mut self, elements: &mut Elements, numbers: &[i64]) -> Result<(), AllocError>
+        requires sound { IsSound self.old }
+        requires half { ElementsStand self.old elements.old }
+        ensures ok { OnOk result (PutsElements self.old self.new elements.old elements.new (whole_values numbers.now)) }
+    {
+        for number in numbers {
+            self.push_element(elements, Slot::of(Node::Whole(*number)))?;
+        }
         Ok(())
     }
 
