@@ -10,6 +10,7 @@ mod ReadAnswers
 mod ReadDeep
 mod ReadItems
 mod ReadMembers
+mod ReadRuns
 mod ReadScalars
 mod ReadTrees
 mod ReadTypes

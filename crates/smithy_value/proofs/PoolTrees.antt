@@ -4,7 +4,7 @@ use Rattle.std.proofs.lemmas.List.{append-nil, drop_at, take_at, drop-append-le}
 use Rattle.smithy_declarations.specs.Value.{Value, Values, value, values_of, MemberValues, no_member_values, member_value, put_member, MapEntries, no_map_entries, map_entry, put_entry, list, union}
 use Rattle.smithy_tree.specs.Items.{Item, nothing, elements_of, entries_of, members_of, put_members, put_entries}
 use Rattle.smithy_tree.specs.Nodes.{IsLabel, union_of, values_over}
-use Rattle.smithy_tree.specs.Seen.{IsSound, ElementsStand, Grows, Holds, HoldsSlot, Waits, Closes, PutsElement, ClosesElements, store, values, view, waiting, item_in, elements_in}
+use Rattle.smithy_tree.specs.Seen.{IsSound, ElementsStand, Grows, Holds, HoldsSlot, Waits, Closes, PutsElement, PutsElements, ClosesElements, store, values, view, waiting, item_in, elements_in}
 use Rattle.smithy_tree.specs.declared.elements.Elements.{Elements}
 use Rattle.smithy_tree.specs.declared.node.Node.{Node}
 use Rattle.smithy_tree.specs.declared.node.Node.TheVariants as nodes
@@ -64,6 +64,16 @@ begun_no_elements p e sound half begins = record {
 -- one more element of a list
 pub begun_more_elements : (p q r : Pool) (e f : Elements) (v : Value) → BegunElements p q e → PutsElement q r e f v → BegunElements p r f
 begun_more_elements p q r e f v b put = record {
+  grows = grows_twice p q r b.grows put.grows;
+  half = put.half;
+  items = b.items ++ put.added;
+  waits = put.waiting ∙ (ap (λ (ws : List Item). ws ++ put.added) b.waits ∙ append_assoc (waiting p) b.items put.added);
+  begins = put.begins ∙ b.begins;
+}
+
+-- several more
+pub begun_many_elements : (p q r : Pool) (e f : Elements) (vs : List Value) → BegunElements p q e → PutsElements q r e f vs → BegunElements p r f
+begun_many_elements p q r e f vs b put = record {
   grows = grows_twice p q r b.grows put.grows;
   half = put.half;
   items = b.items ++ put.added;

@@ -2,3 +2,4 @@
 pub mod Items
 pub mod Leaves
 pub mod Placed
+pub mod Runs

@@ -107,6 +107,11 @@ impl<D: ShapeDeserializer> ShapeDeserializer for Borrowing<'_, '_, D> {
     }
 
     #[inline(always)]
+    fn read_longs(&mut self, schema: &Schema<'_>, room: &mut [i64]) -> usize {
+        self.source.read_longs(schema, room)
+    }
+
+    #[inline(always)]
     fn open_map(&mut self, schema: &Schema<'_>) -> Result<(), SerdeError> {
         self.source.open_map(schema)
     }

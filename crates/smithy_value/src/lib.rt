@@ -7,6 +7,7 @@ mod entry_iter;
 mod placing;
 mod pool_trees;
 mod reading;
+mod runs;
 mod tree;
 mod value;
 mod value_trees;

@@ -134,6 +134,12 @@ impl<'a> Trees for Pool<'a> {
     }
 
     #[inline(always)]
+    fn push_numbers(&mut self, elements: &mut Elements, numbers: &[i64]) -> Result<(), SerdeError> {
+        Pool::push_numbers(self, elements, numbers)?;
+        Ok(())
+    }
+
+    #[inline(always)]
     fn list(&mut self, elements: Elements) -> Result<Slot, SerdeError> {
         Ok(Slot::of(self.close_elements(elements)?))
     }

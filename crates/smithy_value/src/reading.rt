@@ -10,6 +10,7 @@ ghost use Rattle.smithy_value.specs.Private.Leaves.{IsLeaf, IsRare};
 ghost use Rattle.smithy_value.specs.Private.Items.{ReadsItem, ReadsAnyNull};
 
 use crate::borrowing::Borrowing;
+use crate::runs::read_run;
 use crate::tree::Trees;
 use crate::value::Value;
 use crate::value_trees::ValueTrees;
@@ -272,9 +273,11 @@ fn read_list<P: Trees, D: PieceDeserializer<Text = P::Text, Bytes = P::Bytes>>(
     };
     let kind = element.shape_type();
     let mut elements = trees.no_elements(alloc);
+    read_run::<P, D>(source, trees, kind, &element, &mut elements)?;
     while source.next_element()? {
         let item = read_item::<P, D>(alloc, source, trees, sparse, kind, &element)?;
         trees.push_element(&mut elements, item)?;
+        read_run::<P, D>(source, trees, kind, &element, &mut elements)?;
     }
     trees.list(elements)
 }

@@ -2,6 +2,7 @@
 ghost use Rattle.std.specs.Prelude.{◌≡◌, ℕ, List, [], ◌∷◌, ◌++◌, OnOk, IfOk, IfErr};
 ghost use Rattle.smithy_schema.specs.declared.error.SerdeError.TheVariants.{NoMemory};
 ghost use Rattle.smithy_declarations.specs.Value.{Value, scalar_value, boolean, whole, text, bytes, decimal, instant, list, map, structure, union, null_element, document_value, values_of, MapEntries, no_map_entries, put_entry, MemberValues, no_member_values, put_member};
+ghost use Rattle.smithy_tree.specs.Items.{whole_values};
 ghost use Rattle.smithy_types.specs.Document.{whole_document};
 ghost use Rattle.smithy_types.specs.DocumentView.{document_view};
 ghost use Rattle.smithy_value.specs.Building.{IsMade, KeepsLawfully, GrowsLawfully};
@@ -160,6 +161,23 @@ pub trait Trees: Sized {
         ensures begun { OnOk result ((p : Self) → begun_elements p self.old elements.old → begun_elements p self.new elements.new) }
         ensures ok { OnOk result (view_elements self.new elements.new ≡ view_elements self.old elements.old ++ view self.old value ∷ []) }
         ensures err { IfErr result (λ e. e ≡ NoMemory) };
+
+    /// Puts whole numbers behind all others, in their order.
+    fn push_numbers(
+        &mut self,
+        elements: &mut Self::Elements,
+        numbers: &[i64],
+    ) -> Result<(), SerdeError>
+        requires begun { (p : Self) × (i : List ℕ) × sound p i × begun_elements p self.old elements.old }
+        ensures begun { OnOk result ((p : Self) → begun_elements p self.old elements.old → begun_elements p self.new elements.new) }
+        ensures ok { OnOk result (view_elements self.new elements.new ≡ view_elements self.old elements.old ++ whole_values numbers.now) }
+        ensures err { IfErr result (λ e. e ≡ NoMemory) }
+    {
+        for number in numbers {
+            self.push_element(elements, Self::whole(*number))?;
+        }
+        Ok(())
+    }
 
     fn list(&mut self, elements: Self::Elements) -> Result<Self::Tree, SerdeError>
         requires sound { (i : List ℕ) × sound self.old i }

@@ -131,15 +131,12 @@ fn write_numbers<S: ShapeSerializer>(
         unreachable!()
     };
     let element_schema = member.nameless();
-    let kind = element_schema.shape_type();
+    if let ShapeType::Long = element_schema.shape_type() {
+        return sink.write_long_list(schema, numbers);
+    }
     sink.begin_list(schema, Some(numbers.len()))?;
     for number in numbers {
-        if let ShapeType::Long = kind {
-            // A list may have millions of longs, so the kind of each isn't asked again.
-            sink.write_long(&element_schema, *number)?;
-        } else {
-            write_whole_number(sink, &element_schema, i128::from(*number))?;
-        }
+        write_whole_number(sink, &element_schema, i128::from(*number))?;
     }
     sink.end_list()
 }

@@ -122,6 +122,12 @@ read_list-returns-in_err-open_list = lists.read_list-returns-in_err-open_list
 pub read_list-loop-elements-init : goal.read_list-loop-elements-init
 read_list-loop-elements-init = lists.read_list-loop-elements-init
 
+pub read_list-returns-in_err-read_run : goal.read_list-returns-in_err-read_run
+read_list-returns-in_err-read_run = lists.read_list-returns-in_err-read_run
+
+pub read_list-returns-in_err-read_run-2 : goal.read_list-returns-in_err-read_run-2
+read_list-returns-in_err-read_run-2 = lists.read_list-returns-in_err-read_run-2
+
 pub read_list-returns-in_err-next_element : goal.read_list-returns-in_err-next_element
 read_list-returns-in_err-next_element = lists.read_list-returns-in_err-next_element
 
@@ -139,6 +145,9 @@ read_list-returns = lists.read_list-returns
 
 pub read_list-loop-elements-smaller : goal.read_list-loop-elements-smaller
 read_list-loop-elements-smaller = lists.read_list-loop-elements-smaller
+
+pub read_list-read_run-requires-in-loop-elements-clause-begun : goal.read_list-read_run-requires-in-loop-elements-clause-begun
+read_list-read_run-requires-in-loop-elements-clause-begun = lists.read_list-read_run-requires-in-loop-elements-clause-begun
 
 pub read_list-no_elements-elements-requires : goal.read_list-no_elements-elements-requires
 read_list-no_elements-elements-requires = lists.read_list-no_elements-elements-requires

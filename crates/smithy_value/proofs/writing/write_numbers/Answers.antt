@@ -1,5 +1,5 @@
 use Rattle.std.proofs.Common.{◌≡◌, [], rules, ◌∙◌, get_or, pos, to_z, of_z}
-use Rattle.std.specs.Int.{w64, w128}
+use Rattle.std.specs.Int.{w128}
 use Rattle.std.proofs.lemmas.Result.{err_from_is_err_and}
 use Rattle.std.proofs.lemmas.List.{drop_all}
 use Rattle.smithy_shapes.specs.Site.{site_of}
@@ -10,7 +10,6 @@ use Rattle.smithy_shapes.proofs.Inner.{inner_element}
 use Rattle.smithy_schema.proofs.WrittenLists as lists
 use Rattle.smithy_value.proofs.WriteAnswers.{called, had_not_failed, has_not_failed, first_fails, later_fails, last_called}
 use Rattle.smithy_value.proofs.writing.write_numbers.Goals as goal
-use Rattle.smithy_value.proofs.writing.write_numbers.Goals.{in-Long+in_ok-write_long, in_default-kind+in_ok-write_whole_number}
 
 pub returns-in_err-begin_list : goal.returns-in_err-begin_list
 returns-in_err-begin_list g c =
@@ -54,38 +53,19 @@ pub loop-number-preserved : goal.loop-number-preserved
 loop-number-preserved g c =
     let next = lists.next_number whole_value c.args.numbers.now c.loop-number.number-index (pos 0) c.loop-number-test.true in
     let site = lists.element_site_is (site_of c.args.schema.now) (site_of c.in-Some.member) (site_of c.nameless-element_schema.result) (inner_element (site_of c.args.schema.now) _ c.requires.fits.0 c.in-Some.ensures) c.nameless-element_schema.ensures in
-    elim c.match-kind.branch [
-      | in-Long+in_ok-write_long w ↦
-          let number : to_z w64 (of_z w64 (get_or c.args.numbers.now c.loop-number.number-index (pos 0))) ≡ get_or c.args.numbers.now c.loop-number.number-index (pos 0) = search rules in
-          rw w.sink-is (record {
-            before = c.loop-number.invariant.before;
-            failed = has_not_failed _ _ w.in_ok-write_long.ensures.broken;
-            rest = c.loop-number.invariant.rest ∙ lists.element_written g.S.ShapeSerializer.after (site_of c.args.schema.now) _ _ _ (g.S.ShapeSerializer.state c.loop-number.sink) _ next (call_made g.S.ShapeSerializer.after _ [] _ _ (rw (site, number) at w.in_ok-write_long.ensures.ok));
-            fits = lists.rest_fits (site_of c.args.schema.now) _ _ _ next c.loop-number.invariant.fits;
-          })
-      | in_default-kind+in_ok-write_whole_number w ↦
-          let number : to_z w128 (of_z w128 w.from.result) ≡ get_or c.args.numbers.now c.loop-number.number-index (pos 0) = search rules in
-          rw w.sink-is (record {
-            before = c.loop-number.invariant.before;
-            failed = has_not_failed _ _ w.in_ok-write_whole_number.ensures.writes.broken;
-            rest = c.loop-number.invariant.rest ∙ lists.element_written g.S.ShapeSerializer.after (site_of c.args.schema.now) _ _ _ (g.S.ShapeSerializer.state c.loop-number.sink) _ next (call_made g.S.ShapeSerializer.after _ [] _ _ (rw (site, number) at w.in_ok-write_whole_number.ensures.writes.ok));
-            fits = lists.rest_fits (site_of c.args.schema.now) _ _ _ next c.loop-number.invariant.fits;
-          })
-    ]
-
--- a long was refused
-pub returns-in_err-write_long : goal.returns-in_err-write_long
-returns-in_err-write_long g c =
-    let told = c.in_err-write_long.ensures in
-    let number : to_z w64 (of_z w64 (get_or c.args.numbers.now c.loop-number.number-index (pos 0))) ≡ get_or c.args.numbers.now c.loop-number.number-index (pos 0) = search rules in
-    let p = err_from_is_err_and c.from_residual-in_err-write_long.result c.from_residual-in_err-write_long.ensures.1 in
-    let next = lists.next_number whole_value c.args.numbers.now c.loop-number.number-index (pos 0) c.loop-number-test.true in
-    let site = lists.element_site_is (site_of c.args.schema.now) (site_of c.in-Some.member) (site_of c.nameless-element_schema.result) (inner_element (site_of c.args.schema.now) _ c.requires.fits.0 c.in-Some.ensures) c.nameless-element_schema.ensures in
+    let number : to_z w128 (of_z w128 c.from.result) ≡ get_or c.args.numbers.now c.loop-number.number-index (pos 0) = search rules in
     record {
-      writes = rw (p.1, p.2)
-          (later_fails _ _ _ _ _ _ _ c.loop-number.invariant.before c.loop-number.invariant.failed (called _ _ _ _ _ told.failed told.broken tt (rw (site, number) at told.refused))
-          (λ refused. c.loop-number.invariant.rest ∙ lists.element_refused g.S.ShapeSerializer.after (site_of c.args.schema.now) _ _ _ (g.S.ShapeSerializer.state c.loop-number.sink) _ next (call_refused g.S.ShapeSerializer.after _ [] _ _ refused)));
+      before = c.loop-number.invariant.before;
+      failed = has_not_failed _ _ c.in_ok-write_whole_number.ensures.writes.broken;
+      rest = c.loop-number.invariant.rest ∙ lists.element_written g.S.ShapeSerializer.after (site_of c.args.schema.now) _ _ _ (g.S.ShapeSerializer.state c.loop-number.sink) _ next (call_made g.S.ShapeSerializer.after _ [] _ _ (rw (site, number) at c.in_ok-write_whole_number.ensures.writes.ok));
+      fits = lists.rest_fits (site_of c.args.schema.now) _ _ _ next c.loop-number.invariant.fits;
     }
+
+-- they are longs
+pub returns-in-Long : goal.returns-in-Long
+returns-in-Long g c =
+    let told = c.write_long_list.ensures in
+    record { writes = called _ _ _ _ _ told.failed told.broken told.ok told.refused }
 
 -- the last call ends the list
 pub returns : goal.returns
