@@ -6,8 +6,8 @@ use Rattle.std_alloc.proofs.BoxSteps.Form.{Bx}
 use Rattle.std_heap.specs.contracts.Global as Heap
 use Rattle.std_heap.specs.contracts.GlobalAllocator.TheImpl.{ghosts, dict}
 use Rattle.std_heap.proofs.Global.TheLaws as heap
-use Rattle.smithy_shapes.specs.contracts.shapes.Shapes as Home
-use Rattle.smithy_shapes.proofs.shapes.Shapes.TheLaws as home
+use Rattle.smithy_transcode_c.specs.contracts.kept.Kept as Home
+use Rattle.smithy_transcode_c.proofs.kept.Kept.TheLaws as home
 use Rattle.smithy_transcode_c.specs.contracts.handle.parts.Parts as Parts
 use Rattle.smithy_transcode_c.specs.contracts.handle.Handle as Handle
 

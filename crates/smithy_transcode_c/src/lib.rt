@@ -2,15 +2,16 @@
 //! or many, into the caller's memory. `smithy_transcode.h` declares the functions, and says what they trust their caller with.
 #![tactic(auto)]
 
-ghost use Rattle.std.specs.Prelude.{◌≡◌, ◌≢◌, Some, IfOk, IfErr};
+ghost use Rattle.std.specs.Prelude.{◌≡◌, ◌≢◌, [], Some, IfOk, IfErr};
 ghost use Rattle.smithy_transcode_c.specs.Refusals.{refusal_number};
 ghost use Rattle.smithy_declarations.specs.Acceptance.{accepted, table_of};
-ghost use Rattle.smithy_declarations.specs.Table.{Table};
+ghost use Rattle.smithy_transcode_c.specs.declared.kept.Kept.{Kept};
 ghost use Rattle.smithy_transcode_c.specs.Bodies.{BodiesAnswer};
 ghost use Rattle.smithy_transcode_c.specs.Calls.{CallAnswer, RefusesTable, source_wire, target_wire};
 ghost use Rattle.smithy_transcode_c.specs.Comparing.{CompareAnswer};
 ghost use Rattle.smithy_transcode_c.specs.Finding.{FindingsAnswer};
 ghost use Rattle.smithy_transcode_c.specs.Reading.{FormAnswer};
+ghost use Rattle.smithy_transcode_c.specs.Tasks.{PrepareAnswer, TaskAnswer};
 
 mod answer;
 mod asked;
@@ -18,9 +19,11 @@ mod bodies;
 mod comparing;
 mod finding;
 mod handle;
+mod kept;
 mod numbers;
 mod reading;
 mod refusal;
+mod tasks;
 
 use crate::answer::answer;
 use crate::asked::Asked;
@@ -28,20 +31,23 @@ use crate::bodies::{Inputs, answer_each};
 use crate::comparing::{Comparison, answer_comparison};
 use crate::finding::answer_findings;
 use crate::handle::{Handle, Place};
+use crate::kept::Kept;
 use crate::reading::{FormTold, answer_form};
 use crate::refusal::Refusal;
+use crate::tasks::answer_task;
 use smithy_shapes::{Shapes, TableText};
 use std::alloc::Global;
 
 // The table that a text is.
-fn accept(alloc: Global, text: &[u8]) -> Result<Box<Shapes>, Refusal>
-    ensures table { IfOk result (λ table. table_of text.now ≡ accepted table.value) }
+fn accept(alloc: Global, text: &[u8]) -> Result<Box<Kept>, Refusal>
+    ensures table { IfOk result (λ kept. table_of text.now ≡ accepted kept.value.shapes) }
+    ensures tasks { IfOk result (λ kept. kept.value.tasks.items ≡ []) }
     ensures refused { IfErr result (RefusesTable text.now) }
 {
     let declarations = TableText::read(alloc, text)?;
     let table = Shapes::build(alloc, declarations)?;
-    match Box::new(alloc, table) {
-        Ok(table) => Ok(table),
+    match Box::new(alloc, Kept::new(alloc, table)) {
+        Ok(kept) => Ok(kept),
         Err(_) => Err(Refusal::OutOfMemory),
     }
 }
@@ -49,12 +55,12 @@ fn accept(alloc: Global, text: &[u8]) -> Result<Box<Shapes>, Refusal>
 /// Accepts a table, which C keeps: puts it into `place`, and answers 0 or a status.
 #[unsafe(no_mangle)]
 pub extern "C" fn smithy_transcode_accept(alloc: Global, text: &[u8], place: &mut Place) -> u8
-    ensures accepted { result ≡ 0 → (t : Table) × (table_of text.now ≡ accepted t) × (place.new.table ≡ Some t) }
+    ensures accepted { result ≡ 0 → (kept : Kept) × (table_of text.now ≡ accepted kept.shapes) × (kept.tasks.items ≡ []) × (place.new.kept ≡ Some kept) }
     ensures refused { result ≢ 0 → ((refusal : Refusal) × RefusesTable text.now refusal × (result ≡ refusal_number refusal)) × (place.new ≡ place.old) }
 {
     match accept(alloc, text) {
-        Ok(table) => {
-            *place = Place::of(table);
+        Ok(kept) => {
+            *place = Place::of(kept);
             0
         }
         Err(refusal) => refusal.number(),
@@ -83,10 +89,10 @@ pub extern "C" fn smithy_transcode_body(
     out: &mut [u8],
     body_len: &mut usize,
 ) -> u8
-    ensures answer { CallAnswer table.table
+    ensures answer { CallAnswer table.kept.shapes
         (record { root_name = root.now; from = from; to = to; action = action.now; version = version.now })
         input.now out.old result body_len.new out.new }
-    ensures back { place.new.table ≡ Some table.table }
+    ensures back { place.new.kept ≡ Some table.kept }
 {
     let asked = Asked {
         root,
@@ -96,8 +102,64 @@ pub extern "C" fn smithy_transcode_body(
         version,
     };
     let table = table.into_box();
-    let number = answer(alloc, &table, &asked, input, out, body_len);
+    let number = answer(alloc, &table.shapes, &asked, input, out, body_len);
     *place = Place::of(table);
+    number
+}
+
+/// Prepares a task, which the table keeps from then on: looks up its root and its wires, and answers 0, with its number in `task`, or a
+/// status.
+#[unsafe(no_mangle)]
+pub extern "C" fn smithy_transcode_prepare(
+    alloc: Global,
+    table: Handle,
+    place: &mut Place,
+    root: &[u8],
+    from: u32,
+    to: u32,
+    action: &[u8],
+    version: &[u8],
+    task: &mut usize,
+) -> u8
+    ensures { PrepareAnswer (record { root_name = root.now; from = from; to = to; action = action.now; version = version.now })
+        table.kept place.new.kept result task.old task.new }
+{
+    let asked = Asked {
+        root,
+        from,
+        to,
+        action,
+        version,
+    };
+    let mut kept = table.into_box();
+    let prepared = kept.prepare(alloc, &asked);
+    *place = Place::of(kept);
+    match prepared {
+        Ok(number) => {
+            *task = number;
+            0
+        }
+        Err(refusal) => refusal.number(),
+    }
+}
+
+/// One body, as `smithy_transcode_body`, by the number of a task that this table prepared. It answers 2 where there is no such task.
+#[unsafe(no_mangle)]
+pub extern "C" fn smithy_transcode_task(
+    alloc: Global,
+    table: Handle,
+    place: &mut Place,
+    task: usize,
+    input: &[u8],
+    out: &mut [u8],
+    body_len: &mut usize,
+) -> u8
+    ensures answer { TaskAnswer table.kept task input.now out.old result body_len.new out.new }
+    ensures back { place.new.kept ≡ Some table.kept }
+{
+    let kept = table.into_box();
+    let number = answer_task(alloc, &kept, task, input, out, body_len);
+    *place = Place::of(kept);
     number
 }
 
@@ -121,13 +183,13 @@ pub extern "C" fn smithy_transcode_bodies(
     statuses: &mut [u8],
     done: &mut usize,
 ) -> u8
-    ensures answer { BodiesAnswer table.table
+    ensures answer { BodiesAnswer table.kept.shapes
         (record { root_name = root.now; from = from; to = to; action = action.now; version = version.now })
         (record { ends = ends.now; bytes = input.now })
         (record { out_ends = out_ends.old; statuses = statuses.old; out = out.old })
         (record { out_ends = out_ends.new; statuses = statuses.new; out = out.new })
         result done.new }
-    ensures back { place.new.table ≡ Some table.table }
+    ensures back { place.new.kept ≡ Some table.kept }
 {
     let asked = Asked {
         root,
@@ -139,7 +201,14 @@ pub extern "C" fn smithy_transcode_bodies(
     let inputs = Inputs { ends, bytes: input };
     let table = table.into_box();
     let number = answer_each(
-        alloc, &table, &asked, &inputs, out, out_ends, statuses, done,
+        alloc,
+        &table.shapes,
+        &asked,
+        &inputs,
+        out,
+        out_ends,
+        statuses,
+        done,
     );
     *place = Place::of(table);
     number
@@ -160,9 +229,9 @@ pub extern "C" fn smithy_transcode_compare(
     out: &mut [u8],
     path_len: &mut usize,
 ) -> u8
-    ensures answer { CompareAnswer table.table (record { root_name = root.now; first = first_wire; second = second_wire })
+    ensures answer { CompareAnswer table.kept.shapes (record { root_name = root.now; first = first_wire; second = second_wire })
         first.now second.now out.old result path_len.new out.new }
-    ensures back { place.new.table ≡ Some table.table }
+    ensures back { place.new.kept ≡ Some table.kept }
 {
     let asked = Comparison {
         root,
@@ -170,7 +239,7 @@ pub extern "C" fn smithy_transcode_compare(
         second: second_wire,
     };
     let table = table.into_box();
-    let number = answer_comparison(alloc, &table, &asked, first, second, out, path_len);
+    let number = answer_comparison(alloc, &table.shapes, &asked, first, second, out, path_len);
     *place = Place::of(table);
     number
 }
@@ -192,13 +261,22 @@ pub extern "C" fn smithy_transcode_findings(
     count: &mut usize,
     len: &mut usize,
 ) -> u8
-    ensures answer { FindingsAnswer table.table root.now (source_wire from) input.now (record { lens = lens.old; kinds = kinds.old; out = out.old })
+    ensures answer { FindingsAnswer table.kept.shapes root.now (source_wire from) input.now (record { lens = lens.old; kinds = kinds.old; out = out.old })
         result count.new len.new (record { lens = lens.new; kinds = kinds.new; out = out.new }) }
-    ensures back { place.new.table ≡ Some table.table }
+    ensures back { place.new.kept ≡ Some table.kept }
 {
     let table = table.into_box();
     let number = answer_findings(
-        alloc, &table, root, from, input, lens, kinds, out, count, len,
+        alloc,
+        &table.shapes,
+        root,
+        from,
+        input,
+        lens,
+        kinds,
+        out,
+        count,
+        len,
     );
     *place = Place::of(table);
     number
@@ -219,10 +297,10 @@ pub extern "C" fn smithy_transcode_form(
     out: &mut [u8],
     told: &mut FormTold,
 ) -> u8
-    ensures answer { FormAnswer table.table root.now
+    ensures answer { FormAnswer table.kept.shapes root.now
         (target_wire (record { root_name = root.now; from = 0; to = to; action = action.now; version = version.now }))
         input.now out.old result told.new out.new }
-    ensures back { place.new.table ≡ Some table.table }
+    ensures back { place.new.kept ≡ Some table.kept }
 {
     let asked = Asked {
         root,
@@ -232,7 +310,7 @@ pub extern "C" fn smithy_transcode_form(
         version,
     };
     let table = table.into_box();
-    let number = answer_form(alloc, &table, &asked, input, out, told);
+    let number = answer_form(alloc, &table.shapes, &asked, input, out, told);
     *place = Place::of(table);
     number
 }

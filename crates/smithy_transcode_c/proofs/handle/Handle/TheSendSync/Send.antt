@@ -7,12 +7,12 @@ use denote.Param.Send.{IsSend, AllSend, owning_send, struct_send, sendable}
 use Rattle.std.proofs.Crossing as heap
 use Rattle.std_alloc.proofs.SendSync.{quiet, lies}
 use Rattle.std_heap.proofs.Global.TheSendSync as allocator
-use Rattle.smithy_shapes.specs.contracts.shapes.Shapes as Home
-use Rattle.smithy_shapes.proofs.shapes.Shapes.TheSendSync.{the_send as home}
+use Rattle.smithy_transcode_c.specs.contracts.kept.Kept as Home
+use Rattle.smithy_transcode_c.proofs.kept.Kept.TheSendSync.{the_send as home}
 use Rattle.smithy_transcode_c.specs.contracts.handle.Handle.{the_row, the_type}
 
 pub send : IsSend the_row
 send =
     let all : AllSend (fields the_type) = (search sendable, (allocator.the_field_send, tt)) in
-    owning_send the_type all (λ d. (lies Home.the_row home d.ptr d.table, heap.frees.frees d.alloc (raw (lone Home.the_row.mir)) d.ptr))
+    owning_send the_type all (λ d. (lies Home.the_row home d.ptr d.kept, heap.frees.frees d.alloc (raw (lone Home.the_row.mir)) d.ptr))
     (λ k. quiet (to the_type) (exits_of k (fields the_type)) ((struct_send (shape the_type) all).leaving k))
