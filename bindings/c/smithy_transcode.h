@@ -39,8 +39,9 @@ enum {
 /* What a call answers. */
 enum {
     SMITHY_DONE = 0,
-    SMITHY_USAGE = 2,                /* a wire that is none, a form whose action or version isn't UTF-8, a body of many that has no place, or
-                                        null in place of a task, of a length or of a table that is to be accepted */
+    SMITHY_USAGE = 2,                /* a wire that is none, a form whose action or version isn't UTF-8, a body of many that has no place, a
+                                        prepared task that isn't of this table, or null in place of a task, of a length or of a table that is
+                                        to be accepted */
     SMITHY_OUT_OF_MEMORY = 8,
     SMITHY_INVALID_INPUT = 10,       /* the input spells no value of the root: it is invalid, */
     SMITHY_TOO_DEEP = 11,            /* too deep, */
@@ -97,6 +98,14 @@ typedef struct {
     size_t version_len;
 } smithy_task;
 
+/* A task that was prepared for a table, which keeps it: its root and its wires were looked up then. It is of this table alone, and none once
+   that is freed. */
+typedef struct {
+    smithy_table *table;
+    const uint8_t *pointer; /* that of the table when it was prepared */
+    size_t number;
+} smithy_prepared;
+
 /* What is told of a form: the lengths of its action, its version and the body of its value, which stand one behind another. `pair` is
    the number of the pair that is refused, from 1, or 0. */
 typedef struct {
@@ -113,6 +122,11 @@ void smithy_transcode_free(smithy_table table);
 uint8_t smithy_transcode_body(smithy_table table, smithy_table *place,
     const uint8_t *root, size_t root_len, uint32_t from, uint32_t to,
     const uint8_t *action, size_t action_len, const uint8_t *version, size_t version_len,
+    const uint8_t *input, size_t input_len, uint8_t *out, size_t out_room, size_t *body_len);
+uint8_t smithy_transcode_prepare(smithy_table table, smithy_table *place,
+    const uint8_t *root, size_t root_len, uint32_t from, uint32_t to,
+    const uint8_t *action, size_t action_len, const uint8_t *version, size_t version_len, size_t *task);
+uint8_t smithy_transcode_task(smithy_table table, smithy_table *place, size_t task,
     const uint8_t *input, size_t input_len, uint8_t *out, size_t out_room, size_t *body_len);
 uint8_t smithy_transcode_bodies(smithy_table table, smithy_table *place,
     const uint8_t *root, size_t root_len, uint32_t from, uint32_t to,
@@ -178,6 +192,53 @@ static inline uint8_t smithy_table_transcode(smithy_table *table, const smithy_t
         task->from, task->to, smithy_bytes(task->action), task->action == NULL ? 0 : task->action_len,
         smithy_bytes(task->version), task->version == NULL ? 0 : task->version_len,
         smithy_bytes(input), input == NULL ? 0 : input_len, out == NULL ? nothing : (uint8_t *)out, out == NULL ? 0 : out_room, body_len);
+}
+
+/* Prepares a task for bodies of this table: 0, or 2, 8, 21, 22 or 25. The table keeps each task that is prepared until it is freed. It stays
+   where it is as long as the task is used. */
+static inline uint8_t smithy_table_prepare(smithy_table *table, const smithy_task *task, smithy_prepared *prepared)
+{
+    if (prepared == NULL) {
+        return SMITHY_USAGE;
+    }
+    prepared->table = NULL;
+    if (table == NULL || table->pointer == NULL) {
+        return SMITHY_NO_TABLE;
+    }
+    if (task == NULL) {
+        return SMITHY_USAGE;
+    }
+    uint8_t number = smithy_transcode_prepare(*table, table, smithy_bytes(task->root), task->root == NULL ? 0 : task->root_len,
+        task->from, task->to, smithy_bytes(task->action), task->action == NULL ? 0 : task->action_len,
+        smithy_bytes(task->version), task->version == NULL ? 0 : task->version_len, &prepared->number);
+    if (number == SMITHY_DONE) {
+        prepared->table = table;
+        prepared->pointer = table->pointer;
+    }
+    return number;
+}
+
+/* Transcodes one body as `smithy_table_transcode`, by a prepared task. It answers 2 where the task wasn't prepared, or for another table
+   than the one that stands there now. */
+static inline uint8_t smithy_prepared_transcode(const smithy_prepared *prepared, const void *input, size_t input_len,
+    void *out, size_t out_room, size_t *body_len)
+{
+    static uint8_t nothing[1];
+    if (body_len == NULL) {
+        return SMITHY_USAGE;
+    }
+    *body_len = 0;
+    if (prepared == NULL || prepared->table == NULL) {
+        return SMITHY_USAGE;
+    }
+    if (prepared->table->pointer == NULL) {
+        return SMITHY_NO_TABLE;
+    }
+    if (prepared->table->pointer != prepared->pointer) {
+        return SMITHY_USAGE;
+    }
+    return smithy_transcode_task(*prepared->table, prepared->table, prepared->number, smithy_bytes(input), input == NULL ? 0 : input_len,
+        out == NULL ? nothing : (uint8_t *)out, out == NULL ? 0 : out_room, body_len);
 }
 
 /* Transcodes `count` bodies, one behind another in `input`, each before its place in `ends`. Their bodies are written one behind another

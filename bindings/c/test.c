@@ -299,6 +299,48 @@ static void many(void)
     expect("no table", smithy_table_transcode_all(&table, &task, ends, 3, input, 21, out, 32, out_ends, statuses, &done) == SMITHY_NO_TABLE && done == 0);
 }
 
+/* ---- prepared tasks */
+
+static void prepared(void)
+{
+    smithy_table table = {NULL}, other = {NULL};
+    static const char text[] = "structure T\nmember b integer\n";
+    smithy_task to_cbor = task_of("S", SMITHY_JSON, SMITHY_CBOR), to_form = task_of("S", SMITHY_JSON, SMITHY_QUERY);
+    smithy_prepared cbor, form, none = {NULL, NULL, 0};
+    uint8_t out[64];
+    size_t len = 99, number = 99;
+    expect("a table is accepted", smithy_table_accept(&table, TEXT, sizeof TEXT - 1) == SMITHY_DONE);
+    expect("another is accepted", smithy_table_accept(&other, text, sizeof text - 1) == SMITHY_DONE);
+    expect("a task is prepared", smithy_table_prepare(&table, &to_cbor, &cbor) == SMITHY_DONE && cbor.number == 0);
+    expect("another is prepared", smithy_table_prepare(&table, &to_form, &form) == SMITHY_DONE && form.number == 1);
+    for (int n = 0; n < 3; n++) {
+        expect("a body by a task", smithy_prepared_transcode(&cbor, "{\"a\":7}", 7, out, sizeof out, &len) == SMITHY_DONE && len == 5);
+        expect("that body", memcmp(out, "\xbf\x61\x61\x07\xff", 5) == 0);
+        expect("a body by the other", smithy_prepared_transcode(&form, "{\"a\":7}", 7, out, sizeof out, &len) == SMITHY_DONE && len == 23);
+        expect("that form", memcmp(out, "Action=Do&Version=1&a=7", 23) == 0);
+        expect("a body that is refused", smithy_prepared_transcode(&cbor, "{", 1, out, sizeof out, &len) == SMITHY_INVALID_INPUT && len == 0);
+        expect("a body without room", smithy_prepared_transcode(&cbor, "{\"a\":7}", 7, out, 4, &len) == SMITHY_NO_ROOM && len == 5);
+    }
+    expect("no such number", smithy_transcode_task(table, &table, 2, smithy_bytes(NULL), 0, out, sizeof out, &len) == SMITHY_USAGE && len == 0);
+    expect("a task of another table", smithy_transcode_task(other, &other, 0, smithy_bytes(NULL), 0, out, sizeof out, &len) == SMITHY_USAGE && len == 0);
+    expect("a root of another table", smithy_table_prepare(&other, &to_cbor, &none) == SMITHY_NO_SUCH_SHAPE && none.table == NULL);
+    expect("a task that wasn't prepared", smithy_prepared_transcode(&none, "", 0, out, sizeof out, &len) == SMITHY_USAGE && len == 0);
+    to_cbor.root = "L";
+    expect("a root that is none", smithy_table_prepare(&table, &to_cbor, &none) == SMITHY_NOT_A_STRUCTURE);
+    to_cbor.to = SMITHY_JSON_INTEGRAL;
+    expect("a wire that is none", smithy_table_prepare(&table, &to_cbor, &none) == SMITHY_USAGE);
+    expect("no task to prepare", smithy_table_prepare(&table, NULL, &none) == SMITHY_USAGE);
+    expect("no place for a task", smithy_table_prepare(&table, &to_form, NULL) == SMITHY_USAGE);
+    expect("no number was given", smithy_transcode_prepare(table, &table, smithy_bytes("Q"), 1, 0, 0, smithy_bytes(NULL), 0, smithy_bytes(NULL), 0, &number) == SMITHY_NO_SUCH_SHAPE && number == 99);
+    smithy_table_free(&other);
+    smithy_prepared moved = cbor;
+    moved.pointer = NULL;
+    expect("a task of another table in this place", smithy_prepared_transcode(&moved, "", 0, out, sizeof out, &len) == SMITHY_USAGE && len == 0);
+    smithy_table_free(&table);
+    expect("a task of no table", smithy_prepared_transcode(&cbor, "", 0, out, sizeof out, &len) == SMITHY_NO_TABLE && len == 0);
+    expect("no table to prepare for", smithy_table_prepare(&table, &to_form, &none) == SMITHY_NO_TABLE);
+}
+
 /* ---- two bodies compared */
 
 /* One comparison: the number, and the text of the path where there is one. */
@@ -402,7 +444,7 @@ static void findings(void)
 {
     static const char text[] = "structure S\nmember a integer\nmember n bigInteger\nmember t timestamp\nmember l L\nmember u U\n"
                                "list L string\nunion U\nmember s S\nmember n long\n";
-    static char nested[2048], nest[1024];
+    static char nested[2048];
     smithy_table table = {NULL};
     struct findings it;
     expect("a table is accepted", smithy_table_accept(&table, text, sizeof text - 1) == SMITHY_DONE);
@@ -422,9 +464,6 @@ static void findings(void)
     expect("nothing", find(&table, "S", SMITHY_JSON, "{\"a\":7}", 7, 8, 64, &it) == SMITHY_DONE && it.count == 0 && it.len == 0 && it.kinds[0] == 0x55);
     expect("nothing in an empty body", find(&table, "S", SMITHY_CBOR, NULL, 0, 0, 0, &it) == SMITHY_DONE && it.count == 0);
     expect("no text", find(&table, "S", SMITHY_JSON, "{", 1, 8, 64, &it) == SMITHY_NOT_WELL_FORMED && it.count == 0 && it.len == 0);
-    memset(nest, '[', 513);
-    memset(nest + 513, ']', 507);
-    expect("no text of many brackets", find(&table, "S", SMITHY_JSON, nest, 1020, 8, 64, &it) == SMITHY_TOO_NESTED || it.count == 0);
     memset(nested, '[', 513);
     memset(nested + 513, ']', 513);
     expect("too nested", find(&table, "S", SMITHY_JSON, nested, 1026, 8, 64, &it) == SMITHY_TOO_NESTED && it.count == 0);
@@ -565,6 +604,7 @@ static void threads(void)
 int main(int words, char **word)
 {
     many();
+    prepared();
     compared();
     findings();
     forms();

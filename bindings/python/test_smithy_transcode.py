@@ -70,6 +70,22 @@ class Bodies(unittest.TestCase):
         with self.assertRaises(st.NoSuchShape):
             self.table.transcoder("Q", st.JSON, st.JSON).each([b"{}"])
 
+    def test_prepared(self):
+        with st.Table(b"structure T\nmember b integer\n") as other:
+            with self.assertRaises(st.NoSuchShape):
+                other.transcoder("S", st.JSON, st.CBOR)
+            self.assertEqual(other.transcoder("T", st.JSON, st.JSON)(b'{"b" : 1}'), b'{"b":1}')
+        first, second = (self.table.transcoder("S", st.JSON, st.CBOR) for _ in range(2))
+        self.assertIs(first._task, second._task)
+        for root, source, target, kind in [
+            ("Q", st.JSON, st.JSON, st.NoSuchShape),
+            ("L", st.JSON, st.JSON, st.NotAStructure),
+            ("S", st.CBOR_DEFINITE, st.JSON, st.Refused),
+            ("S", st.JSON, st.JSON_INTEGRAL, st.Refused),
+        ]:
+            with self.assertRaises(kind):
+                self.table.transcoder(root, source, target)
+
     def test_compare(self):
         table = st.Table(b"structure S\nmember a integer\nmember n bigInteger\nmember x document\nmember m M\nmap M string\n")
         self.assertIsNone(table.compare("S", st.JSON, b'{"z":1, "a" : 7}', st.CBOR, bytes.fromhex("a1616107")))

@@ -14,7 +14,7 @@ import itertools
 import os
 import pathlib
 from dataclasses import dataclass
-from typing import Iterable, Optional, Union
+from typing import Any, Iterable, Optional, Union
 
 try:
     from smithy_transcode import _native as _calls
@@ -238,9 +238,13 @@ class Table:
         if isinstance(accepted, int):
             raise _refusal(accepted)
         self._accepted = accepted
+        # a table keeps each task that it prepares, so that of equal ones there is one
+        self._tasks: dict[tuple[str, int, int, bytes, bytes], Any] = {}
 
     def transcoder(self, root: str, source: Wire, target: Union[Wire, Query]) -> Transcoder:
-        """What transcodes bodies of one root.
+        """What transcodes bodies of one root. It raises a `Refused` where there is no such root or wire.
+
+        The root and the wires are looked up here and not for each body. The table keeps this as long as it is open.
 
         root: the name of a structure of the table. source: the wire of the bodies, which isn't CBOR_DEFINITE. target: the wire that is wanted.
         """
@@ -315,7 +319,14 @@ class Transcoder:
 
     def __init__(self, table: Table, root: str, source: Wire, target: Union[Wire, Query]):
         """As `Table.transcoder`."""
-        self._task = table._accepted.task(root.encode(), source.number, *_wanted(target))
+        asked = root, source.number, *_wanted(target)
+        task = table._tasks.get(asked)
+        if task is None:
+            task = table._accepted.task(root.encode(), *asked[1:])
+            if isinstance(task, int):
+                raise _refusal(task)
+            table._tasks[asked] = task
+        self._task = task
 
     def __call__(self, body: bytes) -> bytes:
         """The canonical body, in the wanted wire, of the value that a body spells. It raises a `Refused` where there is none.

@@ -35,6 +35,11 @@ def _declared(library: Any) -> Any:
     library.smithy_transcode_body.argtypes = [_Handle, handle, text, size, ctypes.c_uint32, ctypes.c_uint32, text, size, text, size,
                                               text, size, ctypes.c_char_p, size, ctypes.POINTER(size)]
     library.smithy_transcode_body.restype = ctypes.c_uint8
+    library.smithy_transcode_prepare.argtypes = [_Handle, handle, text, size, ctypes.c_uint32, ctypes.c_uint32, text, size, text, size,
+                                                 ctypes.POINTER(size)]
+    library.smithy_transcode_prepare.restype = ctypes.c_uint8
+    library.smithy_transcode_task.argtypes = [_Handle, handle, size, text, size, ctypes.c_char_p, size, ctypes.POINTER(size)]
+    library.smithy_transcode_task.restype = ctypes.c_uint8
     sizes, numbers = ctypes.POINTER(size), ctypes.POINTER(ctypes.c_uint8)
     library.smithy_transcode_bodies.argtypes = [_Handle, handle, text, size, ctypes.c_uint32, ctypes.c_uint32, text, size, text, size,
                                                 sizes, size, text, size, ctypes.c_char_p, size, sizes, size, numbers, size, sizes]
@@ -74,8 +79,14 @@ class Table:
         self._handle = handle
         self._lock = threading.Lock()
 
-    def task(self, root: bytes, source: int, target: int, action: bytes, version: bytes) -> Task:
-        return Task(self, root, len(root), source, target, action, len(action), version, len(version))
+    def task(self, root: bytes, source: int, target: int, action: bytes, version: bytes) -> Union[Task, int]:
+        """A prepared task, or why it is none."""
+        asked = root, len(root), source, target, action, len(action), version, len(version)
+        number = ctypes.c_size_t()
+        with self._lock:
+            handle = self.open()
+            status = _library.smithy_transcode_prepare(handle, handle, *asked, number)
+        return status or Task(self, number.value, *asked)
 
     def compare(self, root: bytes, first_wire: int, first: bytes, second_wire: int, second: bytes) -> Union[bytes, int]:
         """The text of the first path at which the values of two bodies differ; or 0 where there is none, or why they weren't compared."""
@@ -142,8 +153,9 @@ class Table:
 class Task:
     """A root of a table and two wires."""
 
-    def __init__(self, table: Table, *asked: Any):
+    def __init__(self, table: Table, number: int, *asked: Any):
         self._table = table
+        self._number = number
         self._asked = asked
         self._room = ctypes.create_string_buffer(4096)
 
@@ -154,7 +166,7 @@ class Task:
             handle = self._table.open()
             while True:
                 room = self._room
-                status = _library.smithy_transcode_body(handle, handle, *self._asked, body, len(body), room, len(room), body_len)
+                status = _library.smithy_transcode_task(handle, handle, self._number, body, len(body), room, len(room), body_len)
                 if status == _DONE:
                     return ctypes.string_at(room, body_len.value)
                 if status != _NO_ROOM:

@@ -17,7 +17,8 @@ enum { SHORT = 4096 };
 static struct {
     __typeof__(smithy_transcode_accept) *accept;
     __typeof__(smithy_transcode_free) *free;
-    __typeof__(smithy_transcode_body) *body;
+    __typeof__(smithy_transcode_prepare) *prepare;
+    __typeof__(smithy_transcode_task) *task;
     __typeof__(smithy_transcode_bodies) *bodies;
     __typeof__(smithy_transcode_compare) *compare;
     __typeof__(smithy_transcode_findings) *findings;
@@ -35,6 +36,7 @@ typedef struct {
     Table *table;
     PyObject *arguments;    /* what the pointers of `asked` point into */
     smithy_task asked;
+    size_t number;          /* of the task that the table prepared */
     uint8_t *room;
     size_t room_len;
 } Task;
@@ -117,7 +119,7 @@ static void table_dealloc(Table *self)
     Py_DECREF(type);
 }
 
-/* ---- tasks: a root of a table and two wires */
+/* ---- tasks: a root of a table and two wires, prepared once */
 
 static PyObject *table_task(Table *self, PyObject *arguments)
 {
@@ -130,6 +132,16 @@ static PyObject *table_task(Table *self, PyObject *arguments)
     asked.root_len = (size_t)root_len;
     asked.action_len = (size_t)action_len;
     asked.version_len = (size_t)version_len;
+    size_t number = 0;
+    if (!enter(self)) {
+        return NULL;
+    }
+    uint8_t status = library.prepare(self->accepted, &self->accepted, (const uint8_t *)asked.root, asked.root_len, asked.from, asked.to,
+        (const uint8_t *)asked.action, asked.action_len, (const uint8_t *)asked.version, asked.version_len, &number);
+    unlock(self);
+    if (status != SMITHY_DONE) {
+        return PyLong_FromLong(status);
+    }
     Task *task = (Task *)PyType_GenericAlloc(task_type, 0);
     if (task == NULL) {
         return NULL;
@@ -139,6 +151,7 @@ static PyObject *table_task(Table *self, PyObject *arguments)
     task->table = self;
     task->arguments = arguments;
     task->asked = asked;
+    task->number = number;
     return (PyObject *)task;
 }
 
@@ -169,14 +182,12 @@ static int has_grown(Task *self, size_t room_len)
 
 static uint8_t transcode(Task *self, const char *input, size_t len, size_t *body_len)
 {
-    const smithy_task *asked = &self->asked;
     if (self->room_len < len + 64 && !has_grown(self, 2 * len + 4096)) {
         return SMITHY_OUT_OF_MEMORY;
     }
     for (;;) {
-        uint8_t status = library.body(self->table->accepted, &self->table->accepted, (const uint8_t *)asked->root, asked->root_len,
-            asked->from, asked->to, (const uint8_t *)asked->action, asked->action_len, (const uint8_t *)asked->version,
-            asked->version_len, (const uint8_t *)input, len, self->room, self->room_len, body_len);
+        uint8_t status = library.task(self->table->accepted, &self->table->accepted, self->number, (const uint8_t *)input, len, self->room,
+            self->room_len, body_len);
         if (status != SMITHY_NO_ROOM) {
             return status;
         }
@@ -497,13 +508,14 @@ static PyObject *load(PyObject *Py_UNUSED(module), PyObject *path)
     if (file != NULL) {
         *(void **)&library.accept = dlsym(file, "smithy_transcode_accept");
         *(void **)&library.free = dlsym(file, "smithy_transcode_free");
-        *(void **)&library.body = dlsym(file, "smithy_transcode_body");
+        *(void **)&library.prepare = dlsym(file, "smithy_transcode_prepare");
+        *(void **)&library.task = dlsym(file, "smithy_transcode_task");
         *(void **)&library.bodies = dlsym(file, "smithy_transcode_bodies");
         *(void **)&library.compare = dlsym(file, "smithy_transcode_compare");
         *(void **)&library.findings = dlsym(file, "smithy_transcode_findings");
         *(void **)&library.form = dlsym(file, "smithy_transcode_form");
     }
-    if (library.accept == NULL || library.free == NULL || library.body == NULL || library.bodies == NULL || library.compare == NULL
+    if (library.accept == NULL || library.free == NULL || library.prepare == NULL || library.task == NULL || library.bodies == NULL || library.compare == NULL
         || library.findings == NULL || library.form == NULL) {
         const char *fault = dlerror();
         PyErr_SetString(PyExc_OSError, fault == NULL ? "the library lacks a function" : fault);

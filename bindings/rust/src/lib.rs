@@ -42,6 +42,29 @@ extern "C" {
         out_room: usize,
         body_len: *mut usize,
     ) -> u8;
+    fn smithy_transcode_prepare(
+        table: Handle,
+        place: *mut Handle,
+        root: *const u8,
+        root_len: usize,
+        from: u32,
+        to: u32,
+        action: *const u8,
+        action_len: usize,
+        version: *const u8,
+        version_len: usize,
+        task: *mut usize,
+    ) -> u8;
+    fn smithy_transcode_task(
+        table: Handle,
+        place: *mut Handle,
+        task: usize,
+        input: *const u8,
+        input_len: usize,
+        out: *mut u8,
+        out_room: usize,
+        body_len: *mut usize,
+    ) -> u8;
     fn smithy_transcode_bodies(
         table: Handle,
         place: *mut Handle,
@@ -304,6 +327,8 @@ pub enum Refusal {
     NoSuchShape,
     /// The root is no structure.
     NotAStructure,
+    /// The task was prepared by another table.
+    OtherTable,
     /// As `InvalidInput`, of the second of two bodies.
     SecondInvalidInput,
     /// As `TooDeep`, of the second of two bodies.
@@ -347,6 +372,7 @@ impl Refusal {
             20 => Refusal::TableRefused,
             21 => Refusal::NoSuchShape,
             22 => Refusal::NotAStructure,
+            2 => Refusal::OtherTable,
             41 => Refusal::SecondInvalidInput,
             42 => Refusal::SecondTooDeep,
             43 => Refusal::SecondTooWide,
@@ -355,7 +381,7 @@ impl Refusal {
             62 => Refusal::TooNested,
             71 => Refusal::NotAForm,
             73 => Refusal::NoValue,
-            // 8, and no other: wires are enums, and the texts of a form are UTF-8
+            // 8, and no other: wires are enums, and the texts of a form are UTF-8, so 2 is told of tasks alone
             _ => Refusal::OutOfMemory,
         }
     }
@@ -377,6 +403,7 @@ impl fmt::Display for Refusal {
             Refusal::TableRefused => "table refused",
             Refusal::NoSuchShape => "no such shape",
             Refusal::NotAStructure => "not a structure",
+            Refusal::OtherTable => "a task of another table",
             Refusal::NotWellFormed => "not well formed",
             Refusal::TooNested => "too nested",
             Refusal::NotAForm => "not a form",
@@ -429,6 +456,13 @@ impl Batch {
     }
 }
 
+/// A root of a table and two wires, which were looked up once. It is of the table that prepared it.
+#[derive(Clone, Copy, Debug)]
+pub struct Task {
+    table: usize,
+    number: usize,
+}
+
 /// An accepted table of shapes.
 #[derive(Debug)]
 pub struct Table(Handle);
@@ -478,6 +512,86 @@ impl Table {
                     action.len(),
                     version.as_ptr(),
                     version.len(),
+                    input.as_ptr(),
+                    input.len(),
+                    out.as_mut_ptr(),
+                    out.len(),
+                    &mut body_len,
+                )
+            };
+            match status {
+                0 => {
+                    out.truncate(body_len);
+                    return Ok(());
+                }
+                NO_ROOM => out.resize(body_len, 0),
+                status => {
+                    out.clear();
+                    return Err(Refusal::of_status(status));
+                }
+            }
+        }
+    }
+
+    /// Prepares a task: looks up its root and its wires, which [`Table::run`] then doesn't do for each body. The table keeps each task that
+    /// it prepares.
+    ///
+    /// ```
+    /// use smithy_transcode::{Refusal, Source, Table, Target};
+    ///
+    /// let mut table = Table::accept(b"structure S\nmember a integer\n")?;
+    /// let to_json = table.prepare("S", Source::Json, Target::Json)?;
+    /// let mut body = Vec::new();
+    /// table.run(&to_json, br#"{"a" : 7}"#, &mut body)?;
+    /// assert_eq!(body, br#"{"a":7}"#);
+    /// # Ok::<(), Refusal>(())
+    /// ```
+    pub fn prepare(&mut self, root: &str, from: Source, to: Target<'_>) -> Result<Task, Refusal> {
+        let (to, action, version) = to.numbered();
+        let mut number = 0;
+        // SAFETY: each slice is memory that may be read, and `&mut self` makes this the table's one call.
+        let status = unsafe {
+            smithy_transcode_prepare(
+                self.0,
+                &mut self.0,
+                root.as_ptr(),
+                root.len(),
+                from as u32,
+                to,
+                action.as_ptr(),
+                action.len(),
+                version.as_ptr(),
+                version.len(),
+                &mut number,
+            )
+        };
+        match status {
+            0 => Ok(Task {
+                table: self.0 .0 as usize,
+                number,
+            }),
+            status => Err(Refusal::of_status(status)),
+        }
+    }
+
+    /// Transcodes a body as [`Table::transcode`] does, by a task that this table prepared.
+    pub fn run(&mut self, task: &Task, input: &[u8], out: &mut Vec<u8>) -> Result<(), Refusal> {
+        if task.table != self.0 .0 as usize {
+            out.clear();
+            return Err(Refusal::OtherTable);
+        }
+        let room = input.len().max(64);
+        if out.len() < room {
+            out.resize(room, 0);
+        }
+        loop {
+            let mut body_len = 0;
+            // SAFETY: the input is memory that may be read, `out` is borrowed alone, and `&mut self` makes this the table's one call.
+            let status = unsafe {
+                smithy_transcode_task(
+                    self.0,
+                    &mut self.0,
+                    task.number,
                     input.as_ptr(),
                     input.len(),
                     out.as_mut_ptr(),

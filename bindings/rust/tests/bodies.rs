@@ -267,6 +267,36 @@ fn forms() {
 }
 
 #[test]
+fn prepared() {
+    let mut table = Table::accept(TEXT).unwrap();
+    let mut other = Table::accept(b"structure T\nmember b integer\n").unwrap();
+    let to_cbor = table.prepare("S", Source::Json, Target::Cbor).unwrap();
+    let form = Target::Query {
+        action: "Do",
+        version: "1",
+    };
+    let to_form = table.prepare("S", Source::Json, form).unwrap();
+    let mut out = Vec::new();
+    table.run(&to_cbor, br#"{"a":7}"#, &mut out).unwrap();
+    assert_eq!(out, b"\xbf\x61\x61\x07\xff");
+    table.run(&to_form, br#"{"a":7}"#, &mut out).unwrap();
+    assert_eq!(out, b"Action=Do&Version=1&a=7");
+    assert_eq!(
+        table.run(&to_cbor, b"{", &mut out),
+        Err(Refusal::InvalidInput)
+    );
+    assert_eq!(
+        other.run(&to_cbor, b"{}", &mut out),
+        Err(Refusal::OtherTable)
+    );
+    assert!(other.prepare("S", Source::Json, Target::Json).is_err());
+    assert_eq!(
+        table.prepare("L", Source::Json, Target::Json).unwrap_err(),
+        Refusal::NotAStructure
+    );
+}
+
+#[test]
 fn many() {
     let mut table = Table::accept(TEXT).unwrap();
     let bodies: Vec<Vec<u8>> = (0..2000)
