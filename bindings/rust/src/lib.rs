@@ -14,8 +14,11 @@
 //! # Ok::<(), Refusal>(())
 //! ```
 #![warn(missing_docs)]
-use std::error::Error;
-use std::fmt;
+mod findings;
+mod refusal;
+
+pub use findings::{Finding, Findings, Kind};
+pub use refusal::Refusal;
 use std::ptr;
 
 #[repr(C)]
@@ -195,101 +198,6 @@ impl<'a> Target<'a> {
     }
 }
 
-/// What is wrong with a body at a path.
-#[derive(Clone, Copy, Debug, PartialEq, Eq, Hash)]
-#[non_exhaustive]
-pub enum Kind {
-    /// The entry names no member of its structure or union.
-    Unknown,
-    /// What stands there is of another kind, or no value of its kind.
-    Mismatch,
-    /// A big number leaves the limits of its kind.
-    Wide,
-    /// The kind can't carry it: a fraction of a nanosecond, a number in a document, a document in CBOR.
-    NotCarried,
-    /// More than 128 containers would be open.
-    Deep,
-    /// A key of the container at the path is no text.
-    Key,
-    /// The union doesn't have one member.
-    Union,
-    /// A null stands in a list or a map that isn't sparse.
-    Null,
-}
-
-impl Kind {
-    fn of_number(number: u8) -> Kind {
-        match number {
-            1 => Kind::Unknown,
-            2 => Kind::Mismatch,
-            3 => Kind::Wide,
-            4 => Kind::NotCarried,
-            5 => Kind::Deep,
-            6 => Kind::Key,
-            7 => Kind::Union,
-            // 8, and no other
-            _ => Kind::Null,
-        }
-    }
-}
-
-impl fmt::Display for Kind {
-    fn fmt(&self, f: &mut fmt::Formatter<'_>) -> fmt::Result {
-        f.write_str(match self {
-            Kind::Unknown => "unknown",
-            Kind::Mismatch => "mismatch",
-            Kind::Wide => "wide",
-            Kind::NotCarried => "not carried",
-            Kind::Deep => "deep",
-            Kind::Key => "key",
-            Kind::Union => "union",
-            Kind::Null => "null",
-        })
-    }
-}
-
-/// What is found in a body at one path.
-#[derive(Clone, Copy, Debug, PartialEq, Eq, Hash)]
-pub struct Finding<'a> {
-    /// The text of the path, as `$.l[0]`.
-    pub path: &'a str,
-    /// What is wrong there.
-    pub kind: Kind,
-}
-
-/// All that is found in a body.
-#[derive(Clone, Debug, Default, PartialEq, Eq)]
-pub struct Findings {
-    texts: String,
-    lens: Vec<usize>,
-    kinds: Vec<u8>,
-}
-
-impl Findings {
-    /// How many findings there are.
-    pub fn len(&self) -> usize {
-        self.lens.len()
-    }
-
-    /// Nothing was found.
-    pub fn is_empty(&self) -> bool {
-        self.lens.is_empty()
-    }
-
-    /// The findings, in the order of the body.
-    pub fn iter(&self) -> impl Iterator<Item = Finding<'_>> {
-        let mut left = self.texts.as_str();
-        self.lens.iter().zip(&self.kinds).map(move |(&len, &kind)| {
-            let (path, rest) = left.split_at(len);
-            left = rest;
-            Finding {
-                path,
-                kind: Kind::of_number(kind),
-            }
-        })
-    }
-}
-
 /// A form of AWS Query that was read.
 #[derive(Clone, Debug, PartialEq, Eq)]
 pub struct Form {
@@ -300,119 +208,6 @@ pub struct Form {
     /// The canonical body of its value in the wanted wire.
     pub body: Vec<u8>,
 }
-
-/// Why there is no body, no answer or no table.
-#[derive(Clone, Copy, Debug, PartialEq, Eq, Hash)]
-#[non_exhaustive]
-pub enum Refusal {
-    /// An allocation was refused.
-    OutOfMemory,
-    /// The input spells no value of the root.
-    InvalidInput,
-    /// The input spells no value of the root, and may open 128 containers or more at once.
-    TooDeep,
-    /// The input spells no value of the root, and has a big number that leaves the limits of its kind.
-    TooWide,
-    /// The input spells no value of the root, and has a number that no instant or document carries.
-    NotCarried,
-    /// The wanted wire has no documents.
-    Document,
-    /// The wanted wire has no nulls.
-    Null,
-    /// The wanted wire doesn't hold an instant of the value.
-    Instant,
-    /// The text is no table.
-    TableRefused,
-    /// The table has no shape of this name.
-    NoSuchShape,
-    /// The root is no structure.
-    NotAStructure,
-    /// The task was prepared by another table.
-    OtherTable,
-    /// As `InvalidInput`, of the second of two bodies.
-    SecondInvalidInput,
-    /// As `TooDeep`, of the second of two bodies.
-    SecondTooDeep,
-    /// As `TooWide`, of the second of two bodies.
-    SecondTooWide,
-    /// As `NotCarried`, of the second of two bodies.
-    SecondNotCarried,
-    /// The body is no text of its wire.
-    NotWellFormed,
-    /// More than 512 containers of the body nest.
-    TooNested,
-    /// The pair of this number, from 1, has no `=`, a `%` without two hexadecimal digits after it, or a side that isn't UTF-8.
-    BadPair(u64),
-    /// The first pair of the form isn't named `Action`, or the second isn't named `Version`.
-    NotAForm,
-    /// The pair of this number has the name of an earlier one.
-    RepeatedPath(u64),
-    /// The pairs of the form are those of no value of the root.
-    NoValue,
-}
-
-impl Refusal {
-    fn of_form(status: u8, pair: u64) -> Refusal {
-        match status {
-            70 => Refusal::BadPair(pair),
-            72 => Refusal::RepeatedPath(pair),
-            status => Refusal::of_status(status),
-        }
-    }
-
-    fn of_status(status: u8) -> Refusal {
-        match status {
-            10 => Refusal::InvalidInput,
-            11 => Refusal::TooDeep,
-            12 => Refusal::TooWide,
-            13 => Refusal::NotCarried,
-            14 => Refusal::Document,
-            15 => Refusal::Null,
-            16 => Refusal::Instant,
-            20 => Refusal::TableRefused,
-            21 => Refusal::NoSuchShape,
-            22 => Refusal::NotAStructure,
-            2 => Refusal::OtherTable,
-            41 => Refusal::SecondInvalidInput,
-            42 => Refusal::SecondTooDeep,
-            43 => Refusal::SecondTooWide,
-            44 => Refusal::SecondNotCarried,
-            61 => Refusal::NotWellFormed,
-            62 => Refusal::TooNested,
-            71 => Refusal::NotAForm,
-            73 => Refusal::NoValue,
-            // 8, and no other: wires are enums, and the texts of a form are UTF-8, so 2 is told of tasks alone
-            _ => Refusal::OutOfMemory,
-        }
-    }
-}
-
-impl fmt::Display for Refusal {
-    fn fmt(&self, f: &mut fmt::Formatter<'_>) -> fmt::Result {
-        f.write_str(match self {
-            Refusal::BadPair(pair) => return write!(f, "bad pair {pair}"),
-            Refusal::RepeatedPath(pair) => return write!(f, "repeated path {pair}"),
-            Refusal::OutOfMemory => "out of memory",
-            Refusal::InvalidInput | Refusal::SecondInvalidInput => "invalid input",
-            Refusal::TooDeep | Refusal::SecondTooDeep => "too deep",
-            Refusal::TooWide | Refusal::SecondTooWide => "number too wide",
-            Refusal::NotCarried | Refusal::SecondNotCarried => "not carried",
-            Refusal::Document => "document not expressible",
-            Refusal::Null => "null not expressible",
-            Refusal::Instant => "instant not expressible",
-            Refusal::TableRefused => "table refused",
-            Refusal::NoSuchShape => "no such shape",
-            Refusal::NotAStructure => "not a structure",
-            Refusal::OtherTable => "a task of another table",
-            Refusal::NotWellFormed => "not well formed",
-            Refusal::TooNested => "too nested",
-            Refusal::NotAForm => "not a form",
-            Refusal::NoValue => "no value",
-        })
-    }
-}
-
-impl Error for Refusal {}
 
 // The answers of a call whose room is too short, of one over bodies that differ, and of one that found something.
 const NO_ROOM: u8 = 24;
