@@ -3,6 +3,7 @@ import functools
 import gzip
 import os
 import pathlib
+import re
 import subprocess
 import tempfile
 
@@ -17,19 +18,26 @@ class OperationTable:
     """The table of an operation's input or output, whose first structure is the root."""
 
     def __init__(self, text):
-        self.text = text.decode()
-        roots = [line.split(" ")[1] for line in self.text.splitlines() if line.startswith("structure ")]
-        if not roots:
+        root = re.search(rb"^structure (\S+)", text, re.MULTILINE)
+        if root is None:
             raise NoTable("the operation has no structure")
-        self._root = roots[0]
+        self._root = root[1].decode()
         try:
             self._table = st.Table(text)
         except st.TableRefused as refusal:
             raise NoTable(str(refusal)) from None
 
-    @functools.lru_cache
-    def transcoder(self, source, target):
-        return self._table.transcoder(self._root, source, target)
+    def of_body(self, source, body):
+        """The canonical JSON of the value of a body in JSON or CBOR."""
+        return self._table.transcoder(self._root, source, st.JSON)(body)
+
+    def of_form(self, form):
+        """The canonical JSON of the value of an AWS Query form."""
+        return self._table.form(self._root, form, st.JSON).body
+
+    def compare(self, first, second):
+        """The first path at which two bodies in JSON differ, or None."""
+        return self._table.compare(self._root, st.JSON, first, st.JSON, second)
 
 
 class OperationTables:

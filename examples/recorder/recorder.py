@@ -8,23 +8,23 @@ DATA is botocore's folder of models. A line has these parts, with tabs between:
 
 SIDE is `input` or `output`. FORMAT is that of the message: `json`, `cbor` or `query ACTION VERSION`. OUTCOME is `recorded`, and BODY is then the
 canonical JSON of the message's value. Else OUTCOME says why the body was refused, and BODY is the body as it came, in base64. The answer of a
-failed call is kept in this way too, and so is a call of a REST service, with the OPERATION `-`. A line is written whole or not at all. What
-isn't signed for a service is left out.
+failed call is kept in this way too, and so is a call of a REST service, with the OPERATION `-`. A line is written whole or not at all: what a
+killed proxy left of one is cut off by the next. What isn't signed for a service is left out.
 """
 import base64
-import contextlib
 import errno
+import mmap
 import os
 import re
 
 import smithy_transcode as st
-from forms import NotConfirmed, json_of_form, pairs_of
 from mitmproxy import ctx
 from operation_tables import NoTable, OperationTables
 
 NAME = "[A-Za-z0-9-]+"
 SCOPE = re.compile(rf"Credential=[^/,]+/[^/,]+/[^/,]+/({NAME})/aws4_request")
 TARGET = re.compile(rf"\w+\.({NAME})")
+FORM = re.compile(rf"Action=({NAME})&Version=({NAME})(?:&|\Z)".encode())
 CBOR_PATH = re.compile(rf"(?:.*/)?service/\w+/operation/({NAME})")
 SOURCES = {"json": st.JSON, "cbor": st.CBOR}
 
@@ -49,20 +49,30 @@ def call_of(request):
     target = path or TARGET.fullmatch(request.headers.get("x-amz-target", ""))
     if target:
         return scope[1], target[1], format_of(request)
-    with contextlib.suppress(ValueError):
-        (first, action), (second, version), *_ = pairs_of(request.get_content(strict=False))
-        if (first, second) == ("Action", "Version") and re.fullmatch(NAME, action) and re.fullmatch(NAME, version):
-            return scope[1], action, f"query {action} {version}"
+    form = FORM.match(request.get_content(strict=False) or b"")
+    if form:
+        return scope[1], form[1].decode(), f"query {form[1].decode()} {form[2].decode()}"
     return scope[1], "-", format_of(request)
 
 
 def canonical(table, wire, body):
-    """The canonical JSON of a body's value. It raises a Refusal where it has none."""
+    """The canonical JSON of a body's value. It raises a Refusal or a Refused where it has none."""
     if wire.startswith("query "):
-        wire, body = "json", json_of_form(table, body)
+        return table.of_form(body)
     if wire not in SOURCES:
         raise Refusal(f"not read: {wire}")
-    return table.transcoder(SOURCES[wire], st.JSON)(body)
+    return table.of_body(SOURCES[wire], body)
+
+
+def opened(path):
+    """The file of a recording, to which lines are added. A last line without its end is cut off."""
+    file = os.open(path, os.O_RDWR | os.O_CREAT | os.O_APPEND, 0o600)
+    size = os.fstat(file).st_size
+    if size:
+        with mmap.mmap(file, size, access=mmap.ACCESS_READ) as lines:
+            whole = lines.rfind(b"\n") + 1
+        os.ftruncate(file, whole)
+    return file
 
 
 class Recorder:
@@ -76,7 +86,7 @@ class Recorder:
 
     def running(self):
         self._tables = OperationTables(ctx.options.tables, ctx.options.models, ctx.options.smithy_table)
-        self._file = os.open(ctx.options.recording, os.O_WRONLY | os.O_CREAT | os.O_APPEND, 0o600)
+        self._file = opened(ctx.options.recording)
 
     def done(self):
         os.close(self._file)
@@ -101,10 +111,8 @@ class Recorder:
             body, outcome = canonical(self._tables.find(service, operation, side), wire, body), "recorded"
         except (Refusal, NoTable, st.Refused) as refusal:
             body, outcome = base64.b64encode(body), str(refusal)
-        except NotConfirmed:
-            body, outcome = base64.b64encode(body), "no value has this form"
         head = "\t".join(re.sub(r"\s", " ", it) for it in (service, operation, side, wire, outcome))
-        self._write(head.encode() + b"\t" + body + b"\n")
+        self._write(head.encode(errors="replace") + b"\t" + body + b"\n")
 
     def _write(self, line):
         """Adds a line. Where the disk is full, what was written of it is cut off."""
