@@ -3,6 +3,8 @@
 import doctest
 import os
 import pickle
+import subprocess
+import sys
 import tempfile
 import threading
 import unittest
@@ -195,6 +197,11 @@ class Bodies(unittest.TestCase):
                     self.assertEqual(answers, [b"v2FhAf8=", b"v/8=", b"invalid input", answers[3], b"v2FhAv8="])
                     self.assertEqual((refused, len(answers[3])), (1, 80))
             self.assertEqual(sorted(os.listdir(room)), ["answers", "bodies"])
+
+    def test_a_missing_library(self):
+        variables = {**os.environ, "SMITHY_TRANSCODE_LIBRARY": "/nowhere/lib.so"}
+        ran = subprocess.run([sys.executable, "-c", "import smithy_transcode.parts"], env=variables, capture_output=True, text=True, check=False)
+        self.assertRegex(ran.stderr.splitlines()[-1], "^ImportError: /nowhere/lib.so: .*No such file.*pip install ./bindings/python")
 
     def test_a_closed_table(self):
         to_json = self.table.transcoder("S", st.JSON, st.JSON)

@@ -19,11 +19,27 @@ SOURCES = {it.name: it for it in (st.JSON, st.JSON_NAME, st.JSON_INTEGRAL, st.JS
 TARGETS = {it.name: it for it in (st.JSON, st.JSON_NAME, st.CBOR, st.CBOR_DEFINITE)}
 
 
+def able(client):
+    """The workers that have the library, or None if all have it. It reports why another one gets no parts."""
+
+    def load():
+        import smithy_transcode  # noqa: F401
+
+    faults = client.run(load, on_error="return")
+    for worker, fault in faults.items():
+        if fault:
+            print(f"{worker} gets no parts: {fault}", file=sys.stderr)
+    if faults and all(faults.values()):
+        sys.exit("no worker has the library")
+    return [worker for worker, fault in faults.items() if not fault] if any(faults.values()) else None
+
+
 def convert(client, task, parts, folder):
     """The counts of each part, once all are there."""
     os.makedirs(folder, exist_ok=True)
-    folder = os.path.abspath(folder)
-    return client.gather([client.submit(task.convert, part, f"{folder}/{number:06}", pure=False) for number, part in enumerate(parts)])
+    workers = able(client)
+    names = [os.path.join(os.path.abspath(folder), f"{number:06}") for number in range(len(parts))]
+    return client.gather([client.submit(task.convert, *it, pure=False, workers=workers) for it in zip(parts, names)])
 
 
 def main():

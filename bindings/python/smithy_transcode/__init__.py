@@ -226,7 +226,15 @@ def _path() -> bytes:
     return bytes(beside if beside.exists() else folder.parents[2] / beside.name)
 
 
-_calls.load(_path())
+def _load(path: bytes) -> None:
+    try:
+        _calls.load(path)
+    except (OSError, AttributeError) as fault:
+        advice = "./build makes this file, and pip install ./bindings/python installs it. SMITHY_TRANSCODE_LIBRARY may name another"
+        raise ImportError(f"{fault} ({advice})", path=os.fsdecode(path)) from None
+
+
+_load(_path())
 
 
 class Table:
