@@ -5,8 +5,9 @@ use std::io::{self, BufRead, Write};
 
 fn main() -> Result<(), Box<dyn Error>> {
     let mut arguments = std::env::args().skip(1);
-    let (Some(table), Some(root)) = (arguments.next(), arguments.next()) else {
-        return Err("usage: transcode TABLE ROOT".into());
+    let (table, root) = match (arguments.next(), arguments.next()) {
+        (Some(table), Some(root)) => (table, root),
+        _ => return Err("usage: transcode TABLE ROOT".into()),
     };
     let mut table = Table::accept(&std::fs::read(table)?)?;
     let mut body = Vec::new();
