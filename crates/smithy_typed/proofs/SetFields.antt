@@ -1,5 +1,5 @@
 -- Fields, one type inside another, and the members that they are read from.
-use Rattle.std.proofs.Common.{◌≡◌, ◌<◌, ◌+◌, ℕ, zero, suc, List, [], ◌∷◌, map, length, Option, Some, None, option_map, Result, Ok, Err, OnOk, refl, sym, ◌∙◌, ap, subst, arith, slice_get, inr}
+use Rattle.std.proofs.Common.{◌≡◌, ◌<◌, ◌+◌, ℕ, zero, suc, List, [], ◌∷◌, map, length, Option, Some, None, option_map, Result, Ok, Err, OnOk, refl, sym, ◌∙◌, ap, subst, arith, ◌≤◌, ◌⊎◌, slice_get, inl, inr}
 use Rattle.std.specs.List.{enumerate_from}
 use Rattle.smithy_declarations.specs.Table.{Table, Member, members_of}
 use Rattle.smithy_declarations.specs.Value.{Value}
@@ -13,7 +13,7 @@ use Rattle.smithy_schema.specs.Typed.{ReadsAs}
 use Rattle.smithy_schema.proofs.AnsweredErrors.{same_success, same_failure, may_answer}
 use Rattle.smithy_schema.proofs.HalfRead.{taken}
 use Rattle.smithy_schema.proofs.ReadFields.{set_field, field_taken}
-use Rattle.smithy_typed.specs.Places.{named_first, named_none, IsAnyMemberAt}
+use Rattle.smithy_typed.specs.Places.{named_first, named_none, IsAnyMemberAt, IsAnyStructure}
 use Rattle.smithy_typed.specs.Values.{SetsField}
 
 -- ---- what a field is set to
@@ -63,6 +63,17 @@ later_there place rest n m site (name ∷ names, ([], none, got)) next = absurd 
 later_there place rest n m site (name ∷ names, (here ∷ sites, (named, is, more), got)) next =
     (names, (sites, more, subst (λ k. slice_get (here ∷ sites) k ≡ Some site) next got))
 
+-- a position that is a member's, or past the fields
+pub first_due : (place : Site → Type 0) (rest : List (List ℕ) → List Site → Type 0) (k n : ℕ) (site : Site) → IsAnyMemberAt (named_first place rest) n site ⊎ (suc k ≤ n)
+    → n ≡ 0 → place site
+first_due place rest k n site (inl there) first = first_there place rest n site there first
+first_due place rest k n site (inr past) first = absurd (omega (arith, past, first))
+
+pub later_due : (place : Site → Type 0) (rest : List (List ℕ) → List Site → Type 0) (k n m : ℕ) (site : Site) → IsAnyMemberAt (named_first place rest) m site ⊎ (suc k ≤ m)
+    → m ≡ suc n → IsAnyMemberAt rest n site ⊎ (k ≤ n)
+later_due place rest k n m site (inl there) next = inl (later_there place rest n m site there next)
+later_due place rest k n m site (inr past) next = inr (omega (arith, past, next))
+
 pub none_there : (n : ℕ) (site : Site) → IsAnyMemberAt named_none n site → ⊥
 none_there n site ([], ([], none, got)) = absurd (let h : None ≡ Some site = got in cc)
 none_there n site ([], (here ∷ sites, none, got)) = none
@@ -83,6 +94,12 @@ member_there outer n site told =
     let members = members_of (kind_at outer) in
     let same : 0 + n ≡ n = omega arith in
     sites_get outer.table 0 n members ∙ ap (λ i. option_map (site_of_member outer.table i) (slice_get members n)) same ∙ told
+
+-- a member of a structure is at its position among the fields
+pub any_there : (members : List (List ℕ) → List Site → Type 0) (outer site : Site) (n m : ℕ) → IsAnyStructure members outer → member_site outer n ≡ Some site → n ≡ m
+    → IsAnyMemberAt members m site
+any_there members outer site n m (names, shape) told same =
+    (names, (member_sites outer, shape.all, subst (λ k. slice_get (member_sites outer) k ≡ Some site) same (member_there outer n site told)))
 
 -- the field's value was taken whole
 pub field_rests : (w : Relations) → IsLawful w → (fields after : List (Option Value)) (n : ℕ) (site : Site) (c d : Cursor) (result : Result (Unit {0}) SerdeError) → SetsField w fields after n site c d result → OnOk result (Rests c d)

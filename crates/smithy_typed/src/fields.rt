@@ -1,5 +1,5 @@
 //! The fields of a structure, one type inside another, so that what holds of one more field is proved once.
-ghost use Rattle.std.specs.Prelude.{◌≡◌, ◌≤◌, ◌+◌, ◌↔◌, ℕ, List, [], ◌∷◌, map, length, Option, option_map, true, false, IsTrue};
+ghost use Rattle.std.specs.Prelude.{◌≡◌, ◌≤◌, ◌+◌, ◌↔◌, ◌⊎◌, ℕ, List, [], ◌∷◌, map, length, Option, option_map, true, false, IsTrue};
 ghost use Rattle.smithy_declarations.specs.Value.{Value, no_member_values};
 ghost use Rattle.smithy_shapes.specs.Site.{Site, site_of, member_of};
 ghost use Rattle.smithy_shapes.specs.MembersLeft.{members_left};
@@ -30,7 +30,7 @@ pub trait FieldList {
     fn are_at(left: Members<'_>, names: &[&str]) -> bool
         ensures { IsTrue result ↔ members (map (λ n. n.now) names.now) (members_left left.entry) };
 
-    /// Reads the member that is due into the field at its position.
+    /// Reads the member that is due into the field at its position. Past the last field nothing is read.
     fn read_field<D: ShapeDeserializer>(
         &mut self,
         source: &mut D,
@@ -39,9 +39,9 @@ pub trait FieldList {
     ) -> Result<(), SerdeError>
         requires due { (D.state source.old).due ≡ true }
         requires nulls { D.dispatches_nulls (D.settings source.old) ≡ false }
-        requires there { IsAnyMemberAt members position (site_of member.now) }
+        requires there { IsAnyMemberAt members position (site_of member.now) ⊎ (length (fields self.old) ≤ position) }
         ensures same { D.settings source.new ≡ D.settings source.old }
-        ensures reads { SetsField (D.reading (D.settings source.old)).wire (fields self.old) (fields self.new) position (site_of member.now) (D.state source.old) (D.state source.new) result };
+        ensures reads { IsAnyMemberAt members position (site_of member.now) → SetsField (D.reading (D.settings source.old)).wire (fields self.old) (fields self.new) position (site_of member.now) (D.state source.old) (D.state source.new) result };
 }
 
 /// A field, and the fields after it.
@@ -77,7 +77,7 @@ impl FieldList for NoField {
         _member: &Schema<'_>,
         _position: u32,
     ) -> Result<(), SerdeError> {
-        unreachable!()
+        Ok(())
     }
 }
 
